@@ -199,7 +199,7 @@ static void written_otherwise(void)
     for (uint32_t i = 0; i < COUNT(odd); i++)
         EXPECT(gcflip_put_number(&heap, 0, 0, i, odd[i]) == GCFLIP_DONE);
     EXPECT(gcflip_bytes_write(&heap, 0, 0, 8, (const uint8_t *)"ab", 2) == GCFLIP_DONE);
-    EXPECT(gcflip_peek(&heap, 0, 0, &view) == GCFLIP_NUMBER && view.number == odd[0]);
+    EXPECT(gcflip_get(&heap, 15, 0, 0, &number) == GCFLIP_NUMBER && number == odd[0]);
     EXPECT(gcflip_peek(&heap, 0, 1, &view) == GCFLIP_NUMBER && view.number == 0xffffffff6261ff);
     EXPECT(gcflip_peek(&heap, 0, 2, &view) == GCFLIP_NUMBER && view.number == odd[2]);
     EXPECT(gcflip_peek(&heap, 0, 3, &view) == GCFLIP_NUMBER && view.number == odd[3]);

@@ -638,6 +638,7 @@ static void texts_without_memory(void)
         EXPECT(has_failed() && h.stats.flips == 0);
         fail_allocation(0);
     }
+    EXPECT(gcflip_release(&h.heap) == GCFLIP_DONE); /* the space of the collections that were given up */
     fail_allocations();
     FAILS(hp_new_bytes(&h, 2, TEXT, source, 70000), GCFLIP_NO_MEMORY, "hp_reserve");
     fail_allocation(0);
