@@ -1,9 +1,9 @@
-/* Measures the longest call of paced work of a program that has many extra roots in use: root_calls [ROOTS [ROUNDS]]
+/* Measures the longest call of paced work of a program that has many extra roots in use: root_calls [ROOTS [ROUNDS [KEPT]]]
  *
- * A program makes short lists in a heap of 2^22 words, on the library's pace, with no extra root, with ROOTS of them in use (2^20 by default), and with
- * as many while it stores nil, numbers and references to low ones at random, four for each list. It does the same in each of ROUNDS rounds, 7 by
- * default. Prints the longest call of work: of each call the least time of all rounds, and of these the greatest; and the time that 99.9 % of the
- * calls do not exceed. */
+ * A program makes short lists in a heap of 2^22 words, on the library's pace, and keeps a list of KEPT pairs, 100,000 by default. It does so with no extra
+ * root, with ROOTS of them in use (2^20 by default), and with as many while it stores nil, numbers and references to low ones at random, four for each
+ * short list. It does the same in each of ROUNDS rounds, 7 by default. Prints the longest call of work: of each call the least time of all rounds, and
+ * of these the greatest; and the time that 99.9 % of the calls do not exceed. */
 #include <stdio.h>
 #include <stdlib.h>
 #include <time.h>
@@ -18,7 +18,7 @@ enum {
     STORES = 4, /* for each list */
     LOW = 4096, /* of so many roots */
     LIST = 16,  /* places: three slots of mutator 0, and the first extra root */
-    HEAD,
+    KEPT,
     NUMBER,
     ROOT = 32
 };
@@ -46,8 +46,8 @@ static double microseconds(void)
     return now.tv_sec * 1e6 + now.tv_nsec / 1e3;
 }
 
-/* Opens a heap whose extra roots refer to the objects in turn. */
-static void open_heap(uint32_t roots)
+/* Opens a heap whose extra roots refer to the objects in turn, and makes the list that the program keeps. */
+static void open_heap(uint32_t roots, uint32_t kept)
 {
     gcflip_options options = gcflip_options_default(SIZE, 1);
     options.extra_roots = roots;
@@ -60,6 +60,9 @@ static void open_heap(uint32_t roots)
             must(gcflip_new(&heap, ROOT + k, 1, 2), GCFLIP_MADE, "new");
         else
             must(gcflip_copy(&heap, ROOT + k, ROOT + k % OBJECTS), GCFLIP_DONE, "copy");
+    for (uint32_t k = 0; k < kept; k++)
+        must(gcflip_new_pair(&heap, 0, KEPT, 1, NUMBER, KEPT), GCFLIP_MADE, "new_pair");
+    must(gcflip_heap_pace(&heap, &pace), GCFLIP_DONE, "pace");
 }
 
 /* Stores nil, a number or a reference to low roots. */
@@ -99,10 +102,10 @@ static double make_list(void)
     return taken;
 }
 
-static void run(uint32_t roots, enum roots kind, int round)
+static void run(uint32_t roots, uint32_t kept, enum roots kind, int round)
 {
     uint64_t random = 88172645463325252u;
-    open_heap(kind == NONE ? 0 : roots);
+    open_heap(kind == NONE ? 0 : roots, kept);
     collections = 0;
     for (int k = 0; k < LISTS; k++) {
         double taken = make_list();
@@ -123,14 +126,15 @@ int main(int count, char **words)
 {
     uint32_t roots = count > 1 ? (uint32_t)strtoul(words[1], NULL, 10) : 1 << 20;
     int rounds = count > 2 ? atoi(words[2]) : 7;
+    uint32_t kept = count > 3 ? (uint32_t)strtoul(words[3], NULL, 10) : 100000;
     static const char *const names[] = {[NONE] = "no extra roots", [IN_USE] = "roots in use", [STORED_TO] = "low roots stored to"};
-    if (roots < LOW || rounds < 1) {
-        fprintf(stderr, "root_calls [ROOTS [ROUNDS]]: at least %d roots, and one round\n", LOW);
+    if (roots < LOW || rounds < 1 || kept > SIZE / 16) {
+        fprintf(stderr, "root_calls [ROOTS [ROUNDS [KEPT]]]: at least %d roots, one round, at most %d pairs\n", LOW, SIZE / 16);
         return 2;
     }
     for (int kind = NONE; kind <= STORED_TO; kind++) {
         for (int round = 0; round < rounds; round++)
-            run(roots, (enum roots)kind, round);
+            run(roots, kept, (enum roots)kind, round);
         qsort(least, LISTS, sizeof *least, compare);
         printf("%s: longest call of work %.1f us, 99.9 %% of the calls %.1f us, %lu collections\n", names[kind], least[LISTS - 1], least[LISTS - 1 - LISTS / 1000], collections);
     }
