@@ -1,10 +1,10 @@
 -- What codes stand for in an epoch stays so when a code is set, a place is added, or a block gets the epoch.
 use Rattle.std.proofs.lemmas.Grind.{common_steps}
-use Rattle.std.proofs.Common.{◌≡◌, ◌≢◌, ℕ, zero, suc, ◌+◌, ◌/◌, ◌%◌, ◌<◌, ◌≤◌, ◌==◌, Bool, if◌then◌else◌, List, [], ◌∷◌, ◌++◌, length, map, set, get_or, replicate, refl, sym, ◌∙◌, ap, arith, length-set, get_or-set_same, get_or-set_other}
+use Rattle.std.proofs.Common.{◌≡◌, ◌≢◌, ℕ, zero, suc, ◌+◌, ◌/◌, ◌%◌, ◌<◌, ◌≤◌, ◌==◌, Bool, if◌then◌else◌, List, [], ◌∷◌, ◌++◌, length, set, get_or, replicate, refl, sym, ◌∙◌, ap, arith, length-set, get_or-set_same, get_or-set_other}
 use Rattle.std.specs.Prelude.{slice_index_or}
 use Rattle.std.proofs.lemmas.Bool.{cases_eq, cases_lt}
 use Rattle.std.proofs.lemmas.List.{get_or_past, ext_get_or}
-use Rattle.gc_monitor.specs.Internal.InWords.{HasCodes, code_in, code_at, codes_in, freed, plain, code_now, codes_now}
+use Rattle.gc_monitor.specs.Internal.InWords.{HasCodes, code_in, code_at, codes_in, freed, code_now, codes_now}
 use Rattle.gc_monitor.proofs.Packed.{code_seen, length-codes}
 
 -- ---- what codes stand for
@@ -12,13 +12,9 @@ use Rattle.gc_monitor.proofs.Packed.{code_seen, length-codes}
 either : (b : Bool) (code : ℕ) → freed code ≡ code → (if b then code else freed code) ≡ code
 either b code same = grind (arith, common_steps)
 
--- a code other than 2 and 3 stands for itself
-pub itself : (epochs : List ℕ) (epoch place code : ℕ) → freed code ≡ code → plain code ≡ code → code_now epochs epoch place code ≡ code
-itself epochs epoch place code same is = ap plain (either (slice_index_or epochs (place / 256) 0 == epoch) code same) ∙ is
-
--- a code 3 stands for 0
-pub three : (epochs : List ℕ) (epoch place : ℕ) → code_now epochs epoch place 3 ≡ 0
-three epochs epoch place = ap plain (either (slice_index_or epochs (place / 256) 0 == epoch) 3 refl)
+-- a code other than 2 stands for itself
+pub itself : (epochs : List ℕ) (epoch place code : ℕ) → freed code ≡ code → code_now epochs epoch place code ≡ code
+itself epochs epoch place code same = either (slice_index_or epochs (place / 256) 0 == epoch) code same
 
 pub length-now : (epochs : List ℕ) (epoch from : ℕ) (codes : List ℕ) → length (codes_now epochs epoch from codes) ≡ length codes
 unfolding codes_now
@@ -27,7 +23,7 @@ length-now epochs epoch from (c ∷ codes) = ap suc (length-now epochs epoch (su
 
 now_from : (epochs : List ℕ) (epoch from : ℕ) (codes : List ℕ) (i : ℕ) → get_or (codes_now epochs epoch from codes) i 0 ≡ code_now epochs epoch (from + i) (get_or codes i 0)
 unfolding codes_now
-now_from epochs epoch from [] i = sym (itself epochs epoch (from + i) 0 refl refl)
+now_from epochs epoch from [] i = sym (itself epochs epoch (from + i) 0 refl)
 now_from epochs epoch from (c ∷ codes) zero = ap (λ n. code_now epochs epoch n c) (let e : from ≡ from + 0 = omega arith in e)
 now_from epochs epoch from (c ∷ codes) (suc i) =
     now_from epochs epoch (suc from) codes i ∙ ap (λ n. code_now epochs epoch n (get_or codes i 0)) (let e : suc from + i ≡ from + suc i = omega arith in e)
@@ -35,19 +31,10 @@ now_from epochs epoch from (c ∷ codes) (suc i) =
 pub now_at : (epochs : List ℕ) (epoch : ℕ) (codes : List ℕ) (i : ℕ) → get_or (codes_now epochs epoch 0 codes) i 0 ≡ code_now epochs epoch i (get_or codes i 0)
 now_at epochs epoch codes i = now_from epochs epoch 0 codes i ∙ ap (λ n. code_now epochs epoch n (get_or codes i 0)) (let e : 0 + i ≡ i = omega arith in e)
 
-pub now_first : (from : ℕ) (codes : List ℕ) → codes_now [] 0 from codes ≡ map plain codes
+pub now_first : (from : ℕ) (codes : List ℕ) → codes_now [] 0 from codes ≡ codes
 unfolding codes_now
 now_first from [] = refl
-now_first from (c ∷ codes) = ap (λ cs. plain c ∷ cs) (now_first (suc from) codes)
-
-plain_twice : (code : ℕ) → plain (plain code) ≡ plain code
-plain_twice code = grind (arith, common_steps)
-
--- what codes stand for stands for itself
-pub now_plain : (epochs : List ℕ) (epoch from : ℕ) (codes : List ℕ) → map plain (codes_now epochs epoch from codes) ≡ codes_now epochs epoch from codes
-unfolding codes_now
-now_plain epochs epoch from [] = refl
-now_plain epochs epoch from (c ∷ codes) = λ i. plain_twice (if slice_index_or epochs (from / 256) 0 == epoch then c else freed c) i ∷ now_plain epochs epoch (suc from) codes i
+now_first from (c ∷ codes) = ap (λ cs. c ∷ cs) (now_first (suc from) codes)
 
 -- a row that has at each place what the codes stand for
 now_is : (epochs : List ℕ) (epoch : ℕ) (codes row : List ℕ) → length row ≡ length codes → ((i : ℕ) → get_or row i 0 ≡ code_now epochs epoch i (get_or codes i 0)) → row ≡ codes_now epochs epoch 0 codes
@@ -66,12 +53,12 @@ counts epochs epoch place code taken here = grind (arith, common_steps)
 now_zeros : (epochs : List ℕ) (epoch from n : ℕ) → codes_now epochs epoch from (replicate n 0) ≡ replicate n 0
 unfolding codes_now
 now_zeros epochs epoch from zero = refl
-now_zeros epochs epoch from (suc n) = λ i. itself epochs epoch from 0 refl refl i ∷ now_zeros epochs epoch (suc from) n i
+now_zeros epochs epoch from (suc n) = λ i. itself epochs epoch from 0 refl i ∷ now_zeros epochs epoch (suc from) n i
 
 -- a start more
 pub now_added : (epochs : List ℕ) (epoch from : ℕ) (codes : List ℕ) (more : ℕ) → codes_now epochs epoch from (codes ++ 1 ∷ replicate more 0) ≡ codes_now epochs epoch from codes ++ 1 ∷ replicate more 0
 unfolding codes_now
-now_added epochs epoch from [] more = λ i. itself epochs epoch from 1 refl refl i ∷ now_zeros epochs epoch (suc from) more i
+now_added epochs epoch from [] more = λ i. itself epochs epoch from 1 refl i ∷ now_zeros epochs epoch (suc from) more i
 now_added epochs epoch from (c ∷ codes) more = ap (λ cs. code_now epochs epoch from c ∷ cs) (now_added epochs epoch (suc from) codes more)
 
 -- ---- another epoch

@@ -15,7 +15,6 @@ pub mod Halves
 pub mod RowsAgree
 pub mod Marks
 pub mod RowsDue
-pub mod News
 pub mod ToldTruth
 pub mod Plain
 pub mod Public

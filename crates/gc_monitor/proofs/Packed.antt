@@ -3,7 +3,7 @@ use Rattle.std.proofs.lemmas.Grind.{common_steps}
 use Rattle.std.proofs.Common.{◌≡◌, ◌≢◌, ◌⊎◌, inl, inr, ℕ, suc, ◌+◌, ◌-◌, ◌/◌, ◌%◌, ◌<◌, ◌≤◌, List, [], ◌∷◌, ◌++◌, length, take, set, get_or, replicate, refl, sym, ◌∙◌, ap, subst, arith, length-append, length-set, get_or-set_same, get_or-set_other}
 use Rattle.std.specs.Prelude.{slice_index}
 use Rattle.std.proofs.lemmas.Bool.{cases_eq, cases_lt}
-use Rattle.std.proofs.lemmas.List.{set-set, append-nil, length-replicate, length-take-le, get_or-take, get_or_append_left, get_or-append_right, get_or-replicate, get_or_default, get_or_past, ext_get_or}
+use Rattle.std.proofs.lemmas.List.{length-replicate, length-take-le, get_or-take, get_or_append_left, get_or-append_right, get_or-replicate, get_or_default, get_or_past, ext_get_or}
 use Rattle.std.proofs.lemmas.List.FromFn.{length-map-range_with_len, get_or-map-range_with_len}
 use Rattle.gc_monitor.specs.Internal.InWords.{Codes, code_in, code_at, codes_in, HasCodes}
 
@@ -236,60 +236,3 @@ all_filled before now places same few filled others =
 
     at : (place : ℕ) → place < length before → get_or now place 0 ≡ get_or (take from before ++ replicate places 3) place 0
     at place within = grind (arith, common_steps, cases_lt, from, get_or_append_left, front, get_or-take, get_or-append_right, get_or-replicate)
-
--- the code of a place of a run that lies in one word
-pub word_code : (words : List ℕ) (len room from count place n : ℕ) (seen : Codes) → HasCodes words len → record { codes = codes_in words len; room = room } ≡ seen → from % 32 + count ≤ 32 → from + count ≤ length seen.codes
-    → n ≡ get_or words (from / 32) n → from ≤ place → place < from + count → get_or seen.codes place 0 ≡ code_in n (from % 32 + (place - from))
-word_code words len room from count place n seen has is word within read low high =
-    let part : place % 32 ≡ from % 32 + (place - from) = omega (arith, low, high, word) in
-    let here : place / 32 ≡ from / 32 = omega (arith, low, high, word) in
-    let len_is = seen_length words len room seen is in
-    sym (code_read words len room place (code_in n (place % 32)) n seen is (omega (arith, high, within))
-    (subst (λ p. n ≡ get_or words p n) (sym here) read) (omega (arith, here, has.count, len_is, within, low, high)) refl)
-    ∙ ap (code_in n) part
-
--- ---- two places more with codes
-
-with_second : (before : List ℕ) (first second more : ℕ) → set (before ++ first ∷ replicate (suc more) 0) (suc (length before)) second ≡ before ++ first ∷ second ∷ replicate more 0
-with_second [] first second more = refl
-with_second (x ∷ before) first second more = ap (λ xs. x ∷ xs) (with_second before first second more)
-
--- the second of two places more
-pub second_set : (before now : List ℕ) (place first second more : ℕ) → now ≡ before ++ first ∷ replicate (suc more) 0 → place ≡ suc (length before) → set now place second ≡ before ++ first ∷ second ∷ replicate more 0
-second_set before now place first second more is at = (λ i. set (is i) (at i) second) ∙ with_second before first second more
-
--- the second place is behind the last too
-pub next_behind : (words : List ℕ) (len word : ℕ) → HasCodes words len → len / 32 < length words → len % 32 + 1 < 32 → word ≡ get_or words (len / 32) word → code_in word (len % 32 + 1) ≡ 0
-unfolding code_at
-next_behind words len word has inside more read =
-    let same : len / 32 ≡ (len + 1) / 32 = omega (arith, more) in
-    let part : len % 32 + 1 ≡ (len + 1) % 32 = omega (arith, more) in
-    ap (λ n. code_in n (len % 32 + 1)) (read ∙ get_or_default words (len / 32) word 0 inside)
-    ∙ (λ i. code_in (get_or words (same i) 0) (part i))
-    ∙ has.rest (len + 1) (omega arith)
-
--- the rows that the code writes for two places more with codes, and places behind them
-pub record IsTwoAdded (words words' : List ℕ) (len len' first second more : ℕ) : Type 0 where
-  pub has : HasCodes words' len'
-  pub codes : codes_in words' len' ≡ codes_in words len ++ first ∷ second ∷ replicate more 0
-
-pub two_added : (words : List ℕ) (len len' first second more word with both : ℕ) → HasCodes words len → len' ≡ len + (more + 2) → (len' + 31) / 32 ≤ length words → len % 32 + 1 < 32
-    → word ≡ get_or words (len / 32) word → code_in with (len % 32) ≡ first → ((k : ℕ) → k ≢ len % 32 → code_in with k ≡ code_in word k)
-    → code_in both (len % 32 + 1) ≡ second → ((k : ℕ) → k ≢ len % 32 + 1 → code_in both k ≡ code_in with k) → IsTwoAdded words (set words (len / 32) both) len len' first second more
-two_added words len len' first second more word with both has len_is count inside read here others there rest =
-    let one : IsAdded words (set words (len / 32) with) len len' first (suc more)
-    = added words words len len' first (suc more) 0 word with has (sym (append-nil words)) (omega arith) (omega arith) (omega (arith, has.few)) read here others in
-    let row : List ℕ = set words (len / 32) with in
-    let within : len / 32 < length words = omega (arith, count, len_is) in
-    let same : (len + 1) / 32 ≡ len / 32 = omega (arith, inside) in
-    let part : (len + 1) % 32 ≡ len % 32 + 1 = omega (arith, inside) in
-    let w : IsWith row (len + 1) second both = record {
-      here = ap (code_in both) part ∙ there;
-      others = λ k other. rest k (λ e. other (e ∙ sym part)) ∙ ap (λ n. code_in n k) (sym (ap (λ p. get_or row p 0) same ∙ get_or-set_same words (len / 32) with 0 within));
-    } in
-    let rows : set row ((len + 1) / 32) both ≡ set words (len / 32) both = ap (λ p. set row p both) same ∙ set-set words (len / 32) with both in
-    record {
-      has = subst (λ row. HasCodes row len') rows (has_codes_set row len' (len + 1) second both one.has (omega arith) w);
-      codes = ap (λ row. codes_in row len') (sym rows) ∙ codes_set row len' (len + 1) second both one.has (omega arith) w
-          ∙ second_set (codes_in words len) (codes_in row len') (len + 1) first second more one.codes (ap (λ n. n + 1) (sym (length-codes words len)) ∙ (let e : length (codes_in words len) + 1 ≡ suc (length (codes_in words len)) = omega arith in e));
-    }

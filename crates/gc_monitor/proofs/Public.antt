@@ -9,4 +9,3 @@ pub use Rattle.gc_monitor.proofs.Seen.{all_done, all_of}
 pub use Rattle.gc_monitor.proofs.ToldTruth.{anywhere_tells, both_tells, dropped_tells, flipped_tells, link_anywhere_tells, none_replicated, old_more_tells, opening_tells, original_field, placed_by_tells, saw_tells, new_more_tells}
 pub use Rattle.gc_monitor.proofs.Walked.{true_stays}
 pub use Rattle.gc_monitor.specs.Internal.Watch.{opening_watch}
-pub use Rattle.gc_monitor.proofs.News.{settled_len, settled_start, settled_back}

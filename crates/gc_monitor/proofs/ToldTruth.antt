@@ -20,7 +20,7 @@ use Rattle.gc_monitor.specs.Tables.{Tables, RowsAgree, watch_of, due_in}
 use Rattle.gc_monitor.specs.Claims.{Accepts, IsPassedField}
 use Rattle.gc_monitor.proofs.Seen.{certified}
 use Rattle.gc_monitor.specs.Telling.{MarksAreStarts, Tells}
-use Rattle.gc_monitor.specs.Events.{code_of, object_codes, with_news, with_due, old_added, replica_added, IsCopy, Made, Saw, Placed, PlacedBy, IsFieldOf, Looked, IsReplicaAt, HasNoReplica, Wrote, Applied, Freed, opening_tables, flipped_tables, settled}
+use Rattle.gc_monitor.specs.Events.{code_of, object_codes, with_news, with_due, old_added, replica_added, IsCopy, Made, Saw, Placed, PlacedBy, IsFieldOf, Looked, IsReplicaAt, HasNoReplica, Wrote, Applied, Freed, opening_tables, flipped_tables}
 use Rattle.gc_monitor.proofs.Codes.{code_set}
 use Rattle.gc_monitor.proofs.RowsAgree.{agree_due, agree_old, agree_replica, map_append, codes_length, code_is}
 use Rattle.gc_monitor.proofs.Origins.{placed as pairs_placed}
@@ -28,7 +28,6 @@ use Rattle.gc_monitor.proofs.Looks.{taken_for_due, compared}
 use Rattle.gc_monitor.proofs.Walked.{begun, old_goes_on, paired_next, replicated, replicated_next, still_seen}
 use Rattle.gc_monitor.proofs.Written.{old_field, new_field, old_link, new_link}
 use Rattle.gc_monitor.proofs.Fronts.{field_where, found_where}
-use Rattle.gc_monitor.proofs.News.{settled_len, settled_starts}
 use Rattle.gc_monitor.proofs.Marks.{no_zero, marks_more, marks_set, marks_taken, marks_written, marks_linked}
 
 -- ---- the pairs of a row of originals
@@ -87,8 +86,7 @@ pub opening_tells : (old : List ℕ) (room : ℕ) → 1 ≤ length old → slice
 opening_tells old room low reserved = grind (arith, common_steps, emptied, seen_one, no_zero)
 
 pub flipped_tells : (old new : List ℕ) (t : Tables) → Tells old new t → Tells new (0 ∷ []) (flipped_tables t)
-flipped_tells old new t tells = emptied new t (settled t.news)
-    (subst (λ n. IsSeen n new) (sym (settled_len t.news)) tells.watches.new_seen) (settled_starts t.news new tells.new_starts)
+flipped_tells old new t tells = emptied new t t.news tells.watches.new_seen tells.new_starts
 
 pub dropped_tells : (old new : List ℕ) (t after : Tables) → Tells old new t → Freed t after → Tells old (0 ∷ []) after
 dropped_tells old new t after tells freed = grind (arith, common_steps, emptied)

@@ -1,5 +1,5 @@
 -- What the events do to the tables of a standing checker that is not lost.
-use Rattle.std.specs.Prelude.{◌≡◌, ◌⊎◌, ◌≢◌, ◌≤◌, ◌<◌, ◌+◌, ℕ, zero, suc, Some, Bool, true, false, not, if◌then◌else◌, List, [], ◌∷◌, ◌++◌, length, take, drop, replicate, slice_index, slice_index_or, slice_set, map, ◌==◌}
+use Rattle.std.specs.Prelude.{◌≡◌, ◌⊎◌, ◌≢◌, ◌≤◌, ◌<◌, ◌+◌, ℕ, zero, suc, Some, Bool, true, false, not, if◌then◌else◌, List, [], ◌∷◌, ◌++◌, length, take, drop, replicate, slice_index, slice_index_or, slice_set}
 use Rattle.gc_graph.specs.Limits.{largest_space}
 use Rattle.gc_words.specs.Word.{read_header, field_words_correspond}
 use Rattle.gc_words.specs.Layout.{field_place, fields_place, link_place}
@@ -125,13 +125,9 @@ opening_tables room = record { olds = 0 ∷ []; news = 0 ∷ []; origins = 0 ∷
 abbrev pub absent_tables : Tables
 absent_tables = record { olds = []; news = []; origins = []; missing = 0; room = 0; lost = true }
 
--- a row of new places of which none is due any more
-abbrev pub settled : List ℕ → List ℕ
-settled codes = map (λ code. if code == 3 then 0 else code) codes
-
--- the new row, of which nothing is due, is the old one, and the next new space is empty
+-- the new row is the old one, and the next new space is empty
 abbrev pub flipped_tables : Tables → Tables
-flipped_tables t = record t { olds = settled t.news; news = 0 ∷ []; origins = 0 ∷ []; missing = 0 }
+flipped_tables t = record t { olds = t.news; news = 0 ∷ []; origins = 0 ∷ []; missing = 0 }
 
 -- the new space is empty, and its originals have no replicas
 pub record Freed (t after : Tables) : Type 0 where

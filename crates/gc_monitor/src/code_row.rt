@@ -15,9 +15,6 @@ const AHEAD: usize = 64;
 /// The word whose codes are all 1.
 const ONES: u64 = 0x5555_5555_5555_5555;
 
-/// The word of an object's codes: 1, then 3, then zeros.
-const OBJECT: u64 = 13;
-
 /// A row has no more words than this, so that an address can name the last of their places.
 const MOST_WORDS: usize = 1 << 27;
 
@@ -41,8 +38,9 @@ impl Model for CodeRow {
 
 impl CodeRow {
     ghost use Rattle.std.specs.Prelude.{◌≡◌, ◌+◌, ◌<◌, ◌≤◌, ◌∷◌, ◌++◌, ◌-◌, [], IfOk, OnOk, IsTrue, length, replicate, take, slice_index, slice_index_or, slice_set, ◌⊎◌, ◌≢◌, ◌%◌, ◌/◌, ℕ, IsFalse};
-    ghost use Rattle.gc_monitor.specs.Internal.InWords.{freed, mark_of};
-    ghost use Rattle.gc_monitor.specs.Internal.Rows.{row_set};
+    ghost use Rattle.gc_monitor.specs.Internal.InWords.{freed};
+    ghost use Rattle.gc_monitor.specs.Events.{code_of};
+    ghost use Rattle.gc_monitor.specs.Internal.Rows.{dues_from, row_set};
 
     /// Returns a row of place 0 alone, whose code is 0, with room for so many places. Allocates once.
     pub(crate) fn new(alloc: Global, places: u32) -> Result<CodeRow, NoMemory>
@@ -99,8 +97,7 @@ impl CodeRow {
     /// Returns the number of places.
     #[inline(always)]
     pub(crate) fn len(&self) -> usize
-        ensures len { result ≡ length self.now.codes }
-        ensures few { result ≤ 4294967295 }
+        ensures { result ≡ length self.now.codes }
     {
         self.len
     }
@@ -136,42 +133,6 @@ impl CodeRow {
         ensures few { IsTrue result → places ≤ 4294967295 }
     {
         places / PER_WORD < self.words.len()
-    }
-
-    /// Adds a place with this code, one with the other code, and so many behind them with code 0.
-    #[inline(always)]
-    pub(crate) fn add_two(&mut self, first: u8, second: u8, more: usize)
-        requires first { first < 4 }
-        requires second { second < 4 }
-        requires room { length self.old.codes + (more + 2) ≤ self.old.room }
-        ensures codes { self.new.codes ≡ self.old.codes ++ first ∷ second ∷ replicate more 0 }
-        ensures room { self.old.room ≤ self.new.room }
-    {
-        let place = self.len;
-        let len = place + (more + 2);
-        if len / PER_WORD >= self.words.len() || place % PER_WORD == PER_WORD - 1 {
-            self.add_two_behind(first, second, more);
-            return;
-        }
-        let at = place / PER_WORD;
-        let start = place % PER_WORD;
-        self.words[at] = with_first(with_first(self.words[at], start, first), start + 1, second);
-        self.len = len;
-    }
-
-    // The same where the places may need further words, or lie in two.
-    #[cold]
-    #[inline(never)]
-    fn add_two_behind(&mut self, first: u8, second: u8, more: usize)
-        requires first { first < 4 }
-        requires second { second < 4 }
-        requires room { length self.old.codes + (more + 2) ≤ self.old.room }
-        ensures codes { self.new.codes ≡ self.old.codes ++ first ∷ second ∷ replicate more 0 }
-        ensures room { self.old.room ≤ self.new.room }
-    {
-        let place = self.len;
-        self.add(first, more + 1);
-        let _ = self.replace(place + 1, second);
     }
 
     /// Adds a place with this code, and so many behind it with code 0.
@@ -210,27 +171,42 @@ impl CodeRow {
         self.len = len;
     }
 
-    /// Gives so many places from this one on code 2 if they are due, else code 3.
+    /// Gives the last so many places code 3.
     #[inline(always)]
+    pub(crate) fn fill(&mut self, places: usize)
+        requires { places ≤ length self.old.codes }
+        ensures codes { self.new.codes ≡ take (length self.old.codes - places) self.old.codes ++ replicate places 3 }
+        ensures room { self.old.room ≤ self.new.room }
+    {
+        let from = self.len - places;
+        if places >= 1 && from % PER_WORD + places <= PER_WORD {
+            self.set_in_word(from, places, true);
+            return;
+        }
+        self.fill_words(places);
+    }
+
+    // Does what `fill` does, one word of codes after the other.
+    #[inline(never)]
+    fn fill_words(&mut self, places: usize)
+        requires { places ≤ length self.old.codes }
+        ensures codes { self.new.codes ≡ take (length self.old.codes - places) self.old.codes ++ replicate places 3 }
+        ensures room { self.old.room ≤ self.new.room }
+    {
+        let len = self.len;
+        let mut from = len - places;
+        while from < len {
+            let count = min(PER_WORD - from % PER_WORD, len - from);
+            self.set_in_word(from, count, true);
+            from += count;
+        }
+    }
+
+    /// Takes so many places from this one on for due or not, one word of codes after the other: gives them code 3 or 0.
     pub(crate) fn set_from(&mut self, first: usize, count: usize, due: bool)
         requires within { first + count ≤ length self.old.codes }
         requires few { first + count ≤ 4295098367 }
-        ensures codes { self.new.codes ≡ row_set (mark_of due) self.old.codes first count }
-        ensures room { self.old.room ≤ self.new.room }
-    {
-        if count >= 1 && first % PER_WORD + count <= PER_WORD {
-            self.set_in_word(first, count, due);
-            return;
-        }
-        self.set_words(first, count, due);
-    }
-
-    // Does what `set_from` does, one word of codes after the other.
-    #[inline(never)]
-    fn set_words(&mut self, first: usize, count: usize, due: bool)
-        requires within { first + count ≤ length self.old.codes }
-        requires few { first + count ≤ 4295098367 }
-        ensures codes { self.new.codes ≡ row_set (mark_of due) self.old.codes first count }
+        ensures codes { self.new.codes ≡ row_set (code_of due) self.old.codes first count }
         ensures room { self.old.room ≤ self.new.room }
     {
         let end = first + count;
@@ -242,63 +218,88 @@ impl CodeRow {
         }
     }
 
-    /// Returns whether so many places of one word have code 2.
-    #[inline(always)]
-    pub(crate) fn are_marked(&self, first: usize, count: usize) -> bool
-        requires some { 1 ≤ count }
-        requires word { first % 32 + count ≤ 32 }
+    /// Returns how many of so many places from this one on have code 3, one word of codes after the other.
+    pub(crate) fn count_from(&self, first: usize, count: usize) -> usize
         requires within { first + count ≤ length self.now.codes }
-        ensures { IsTrue result → (place : ℕ) → first ≤ place → place < first + count → slice_index_or self.now.codes place 0 ≡ 2 }
+        requires few { first + count ≤ 4295098367 }
+        ensures { result ≡ dues_from self.now.codes first count }
     {
-        let word = self.words[first / PER_WORD];
-        with_run(word, first % PER_WORD, count, true) == word
-    }
-
-    /// Returns whether all places from this one on and before the end have code 0.
-    pub(crate) fn are_blank(&self, first: usize, end: usize) -> bool
-        requires within { end ≤ length self.now.codes }
-        requires few { end ≤ 4295098367 }
-        ensures { IsTrue result → (place : ℕ) → first ≤ place → place < end → slice_index_or self.now.codes place 0 ≡ 0 }
-    {
+        let behind = first + count;
         let mut from = first;
-        while from < end {
-            let some = min(PER_WORD - from % PER_WORD, end - from);
-            if self.words[from / PER_WORD] & filled(0, from % PER_WORD, some) != 0 {
-                return false;
-            }
+        let mut dues = 0;
+        while from < behind {
+            let some = min(PER_WORD - from % PER_WORD, behind - from);
+            dues += self.count_in_word(from, some);
             from += some;
         }
-        true
+        dues
     }
 
-    /// Returns whether no place from this one on and before the end has code 0.
-    pub(crate) fn none_blank(&self, first: usize, end: usize) -> bool
-        requires within { end ≤ length self.now.codes }
-        requires few { end ≤ 4295098367 }
-        ensures { IsTrue result → (place : ℕ) → first ≤ place → place < end → slice_index_or self.now.codes place 0 ≢ 0 }
-    {
-        let mut from = first;
-        while from < end {
-            let some = min(PER_WORD - from % PER_WORD, end - from);
-            if !has_no_zero(self.words[from / PER_WORD], from % PER_WORD, some) {
-                return false;
-            }
-            from += some;
-        }
-        true
-    }
-
-    /// Returns whether the codes from this place on are 1, 3, and so many zeros, all of them in one word.
+    // Returns how many of so many places of one word have code 3. Tells first whether all have it.
     #[inline(always)]
-    pub(crate) fn shows_object(&self, first: usize, count: usize) -> bool
-        requires word { first % 32 + (count + 2) ≤ 32 }
-        requires within { first + (count + 2) ≤ length self.now.codes }
-        ensures start { IsTrue result → slice_index_or self.now.codes first 0 ≡ 1 }
-        ensures link { IsTrue result → slice_index_or self.now.codes (first + 1) 0 ≡ 3 }
-        ensures fields { IsTrue result → (place : ℕ) → first + 2 ≤ place → place < first + (count + 2) → slice_index_or self.now.codes place 0 ≡ 0 }
+    fn count_in_word(&self, from: usize, count: usize) -> usize
+        requires some { 1 ≤ count }
+        requires word { from % 32 + count ≤ 32 }
+        requires within { from + count ≤ length self.now.codes }
+        requires few { from + count ≤ 4295098367 }
+        ensures { result ≡ dues_from self.now.codes from count }
     {
-        let word = self.words[first / PER_WORD];
-        (word >> (2 * (first % PER_WORD))) & filled(0, 0, count + 2) == OBJECT
+        let word = self.words[from / PER_WORD];
+        if filled(word, from % PER_WORD, count) == word {
+            return count;
+        }
+        self.count_each(from, count)
+    }
+
+    // Returns how many of so many places from this one on have code 3, one place after the other.
+    fn count_each(&self, first: usize, count: usize) -> usize
+        requires within { first + count ≤ length self.now.codes }
+        requires few { first + count ≤ 4295098367 }
+        ensures { result ≡ dues_from self.now.codes first count }
+    {
+        let mut dues = 0;
+        for k in 0..count {
+            dues += counted(self.get(first + k));
+        }
+        dues
+    }
+
+    /// Gives so many places from this one on code 0 if all of them have code 3. Returns whether they had; else the row stays as it is.
+    #[inline(always)]
+    pub(crate) fn settle(&mut self, first: usize, count: usize) -> bool
+        requires some { 1 ≤ count }
+        requires within { first + count ≤ length self.old.codes }
+        requires few { first + count ≤ 4295098367 }
+        ensures due { IsTrue result → dues_from self.old.codes first count ≡ count }
+        ensures settled { IsTrue result → self.new.codes ≡ row_set 0 self.old.codes first count }
+        ensures stays { IsFalse result → self.new.codes ≡ self.old.codes }
+        ensures room { self.old.room ≤ self.new.room }
+    {
+        if first % PER_WORD + count > PER_WORD {
+            return self.settle_words(first, count);
+        }
+        if self.count_in_word(first, count) != count {
+            return false;
+        }
+        self.set_in_word(first, count, false);
+        true
+    }
+
+    // Does what `settle` does, one word of codes after the other.
+    #[inline(never)]
+    fn settle_words(&mut self, first: usize, count: usize) -> bool
+        requires within { first + count ≤ length self.old.codes }
+        requires few { first + count ≤ 4295098367 }
+        ensures due { IsTrue result → dues_from self.old.codes first count ≡ count }
+        ensures settled { IsTrue result → self.new.codes ≡ row_set 0 self.old.codes first count }
+        ensures stays { IsFalse result → self.new.codes ≡ self.old.codes }
+        ensures room { self.old.room ≤ self.new.room }
+    {
+        if self.count_from(first, count) != count {
+            return false;
+        }
+        self.set_from(first, count, false);
+        true
     }
 
     /// Frees the codes of this word.
@@ -314,14 +315,14 @@ impl CodeRow {
         self.words[word] = freed(self.words[word]);
     }
 
-    // Gives so many places of one word code 2 if they are due, else code 3.
+    // Takes so many places of one word for due or not.
     #[inline(always)]
     fn set_in_word(&mut self, from: usize, count: usize, due: bool)
         requires some { 1 ≤ count }
         requires word { from % 32 + count ≤ 32 }
         requires within { from + count ≤ length self.old.codes }
         ensures len { length self.new.codes ≡ length self.old.codes }
-        ensures run { (place : ℕ) → from ≤ place → place < from + count → slice_index self.new.codes place ≡ mark_of due }
+        ensures run { (place : ℕ) → from ≤ place → place < from + count → slice_index self.new.codes place ≡ code_of due }
         ensures others { (place : ℕ) → (place < from) ⊎ (from + count ≤ place) → slice_index self.new.codes place ≡ slice_index self.old.codes place }
         ensures room { self.old.room ≤ self.new.room }
     {
@@ -330,8 +331,18 @@ impl CodeRow {
     }
 }
 
-ghost use Rattle.std.specs.Prelude.{◌≡◌, ◌≢◌, ◌⊎◌, ◌==◌, ℕ, IsTrue, ◌+◌, ◌-◌, ◌/◌, ◌<◌, ◌≤◌, ◌++◌, replicate, vec_len, vec_capacity};
-ghost use Rattle.gc_monitor.specs.Internal.InWords.{code_in, freed, mark_of};
+ghost use Rattle.std.specs.Prelude.{◌≡◌, ◌≢◌, ◌⊎◌, ◌==◌, ℕ, ◌+◌, ◌-◌, ◌/◌, ◌<◌, ◌≤◌, ◌++◌, replicate, vec_len, vec_capacity};
+ghost use Rattle.gc_monitor.specs.Events.{code_of};
+ghost use Rattle.gc_monitor.specs.Internal.Watch.{bit};
+ghost use Rattle.gc_monitor.specs.Internal.InWords.{code_in, freed};
+
+// 1 for code 3, and 0 for any other.
+#[inline(always)]
+fn counted(code: u8) -> usize
+    ensures { result ≡ bit (code == 3) }
+{
+    if code == 3 { 1 } else { 0 }
+}
 
 // The number of words for so many places.
 #[inline(always)]
@@ -406,30 +417,19 @@ fn freed(word: u64) -> u64
     word ^ (3 * twos)
 }
 
-// The word with code 2 at so many places if they are due, else with code 3 there.
+// The word with code 3 at so many places if they are due, else with code 0 there.
 #[inline(always)]
 fn with_run(word: u64, place: usize, count: usize, due: bool) -> u64
     requires some { 1 ≤ count }
     requires within { place + count ≤ 32 }
-    ensures run { (k : ℕ) → place ≤ k → k < place + count → code_in result k ≡ mark_of due }
+    ensures run { (k : ℕ) → place ≤ k → k < place + count → code_in result k ≡ code_of due }
     ensures others { (k : ℕ) → (k < place) ⊎ (place + count ≤ k) → code_in result k ≡ code_in word k }
 {
     let all = filled(word, place, count);
-    if !due {
+    if due {
         return all;
     }
-    all ^ (filled(0, place, count) & ONES)
-}
-
-// Whether no one of so many places of the word has code 0.
-#[inline(always)]
-fn has_no_zero(word: u64, place: usize, count: usize) -> bool
-    requires some { 1 ≤ count }
-    requires within { place + count ≤ 32 }
-    ensures { IsTrue result → (k : ℕ) → place ≤ k → k < place + count → code_in word k ≢ 0 }
-{
-    let run = filled(0, place, count) & ONES;
-    (word | (word >> 1)) & run == run
+    all ^ filled(0, place, count)
 }
 
 // The word with code 3 at so many places.

@@ -5,7 +5,6 @@
 mod code_row;
 mod laws;
 mod monitor;
-mod new_row;
 mod old_row;
 mod origin_row;
 mod outline;

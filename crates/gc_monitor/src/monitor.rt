@@ -1,12 +1,14 @@
 mod loading;
 mod looking;
 
-use crate::new_row::NewRow;
+use crate::code_row::CodeRow;
 use crate::old_row::OldRow;
 use crate::origin_row::OriginRow;
 use crate::origins_tell_pairs;
 use crate::outline::Outline;
-use crate::walking::{START, TAKEN, claim_in, is_copy, next_header, next_within};
+use crate::walking::{
+    DUE, START, TAKEN, add_codes, claim_in, code_of, is_copy, next_header, next_within,
+};
 use crate::watcher::Watcher;
 use gc_graph::NoMemory;
 use gc_words::{Addr, Header, Value, decode_wide, field_index};
@@ -23,7 +25,7 @@ pub struct Monitor {
     /// By old place, as far as the old space is walked: 0, `START` or `TAKEN`.
     olds: OldRow,
     /// By new place, as far as the new space is walked: 0, `START` or `DUE`.
-    news: NewRow,
+    news: CodeRow,
     /// By new place: the original of the replica that starts here, or 0.
     origins: OriginRow,
     /// The number of places that are due.
@@ -79,7 +81,7 @@ impl Monitor {
         ensures { IfOk result (λ standing. standing ≡ opening_tables size) }
     {
         let olds = OldRow::new(alloc, size)?;
-        let news = NewRow::new(alloc, size)?;
+        let news = CodeRow::new(alloc, size)?;
         let origins = OriginRow::new(alloc, size)?;
         Ok(Monitor {
             olds,
@@ -97,7 +99,7 @@ impl Monitor {
     {
         Monitor {
             olds: OldRow::absent(alloc),
-            news: NewRow::absent(alloc),
+            news: CodeRow::absent(alloc),
             origins: OriginRow::absent(alloc),
             missing: 0,
             room: 0,
@@ -250,7 +252,7 @@ impl Monitor {
     {
         self.olds.take(original as usize);
         self.origins.add(header.len(), original);
-        self.news.add(header.len(), due, header.is_raw());
+        add_codes(&mut self.news, header.len(), due);
         self.missing += due_words(header.len(), due);
     }
 
@@ -333,7 +335,7 @@ impl Monitor {
             return;
         }
         let dues = self.news.count_from(place, count);
-        self.news.set_from(place, count);
+        self.news.set_from(place, count, true);
         self.missing += count - dues;
     }
 
@@ -415,7 +417,7 @@ impl Monitor {
         requires within { place < length self.old.news }
         ensures { self.new ≡ with_due self.old place due }
     {
-        let was = self.news.set_due(place, due);
+        let was = self.news.replace(place, code_of(due)) == DUE;
         self.missing = recounted(self.missing, was, due);
     }
 
@@ -566,7 +568,6 @@ impl Monitor {
         if self.lost {
             return;
         }
-        self.news.settle_rest(self.missing);
         self.olds.exchange(&mut self.news);
         self.news.restart();
         self.origins.restart();

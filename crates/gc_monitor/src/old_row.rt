@@ -1,19 +1,16 @@
 //! The codes of the old space. Those of a collection that was given up count no more.
 
-ghost use Rattle.std.specs.Prelude.{◌≡◌, ◌≢◌, ◌<◌, ◌≤◌, ◌+◌, ◌++◌, ◌∷◌, [], ℕ, IfOk, OnOk, IsTrue, length, replicate, slice_index, slice_index_or, slice_set};
+ghost use Rattle.std.specs.Prelude.{◌≡◌, ◌<◌, ◌≤◌, ◌+◌, ◌++◌, ◌∷◌, [], ℕ, IfOk, OnOk, IsTrue, length, replicate, slice_index, slice_index_or, slice_set};
 ghost use Rattle.gc_monitor.specs.Internal.InWords.{freed};
 
 use crate::code_row::CodeRow;
-use crate::new_row::NewRow;
 use crate::walking::{START, TAKEN};
 use crate::zeros::{add_addresses, touch_addresses};
 use gc_graph::NoMemory;
 use std::alloc::Global;
 use std::cmp::min;
 use std::marker::Model;
-
-/// A code that stands for 0. It comes from the row of a new space, where nothing is due at such a place.
-const NONE: u8 = 3;
+use std::mem::swap;
 
 /// The number of words of codes that have an epoch of their own, and of the places whose codes they hold.
 const WORDS: usize = 8;
@@ -126,9 +123,6 @@ impl OldRow {
         ensures { result ≡ slice_index self.now.codes place }
     {
         let code = self.row.get(place);
-        if code == NONE {
-            return 0;
-        }
         if code != TAKEN {
             return code;
         }
@@ -187,19 +181,18 @@ impl OldRow {
     }
 
     /// Takes the codes of the other row, which then has others, of which none counts.
-    pub(crate) fn exchange(&mut self, news: &mut NewRow)
-        requires { (place : ℕ) → slice_index_or news.old.codes place 0 ≢ 3 }
+    pub(crate) fn exchange(&mut self, news: &mut CodeRow)
         ensures codes { self.new.codes ≡ news.old.codes }
         ensures room { news.old.room ≤ self.new.room }
         ensures left { self.old.room ≤ news.new.room }
     {
-        news.exchange(&mut self.row);
+        swap(&mut self.row, news);
         self.epochs.clear();
         self.epoch = 0;
     }
 }
 
-ghost use Rattle.std.specs.Prelude.{◌*◌, ◌/◌, vec_capacity};
+ghost use Rattle.std.specs.Prelude.{◌≢◌, ◌*◌, ◌/◌, vec_capacity};
 ghost use Rattle.gc_monitor.specs.Internal.InWords.{codes_now};
 
 // The number of blocks for so many places. With fewer, `renew` would write the whole row.
@@ -314,11 +307,7 @@ fn settle(row: &mut CodeRow, epochs: &[u32], epoch: u32)
     ensures room { row.old.room ≤ row.new.room }
 {
     for place in 0..row.len() {
-        let code = row.get(place);
-        if code == NONE {
-            let _ = row.replace(place, 0);
-        }
-        if code == TAKEN && epoch_of(epochs, place / PLACES) != epoch {
+        if row.get(place) == TAKEN && epoch_of(epochs, place / PLACES) != epoch {
             let _ = row.replace(place, START);
         }
     }

@@ -5,8 +5,9 @@ ghost use Rattle.gc_words.specs.Layout.{fields_place, link_place};
 ghost use Rattle.gc_words.specs.Word.{read_header};
 ghost use Rattle.gc_words.specs.declared.header.Header.{Header};
 ghost use Rattle.gc_monitor.specs.Watch.{IsNext};
-ghost use Rattle.gc_monitor.specs.Events.{IsCopy};
+ghost use Rattle.gc_monitor.specs.Events.{IsCopy, object_codes, code_of};
 
+use crate::code_row::CodeRow;
 use crate::old_row::OldRow;
 use gc_words::Header;
 
@@ -14,6 +15,8 @@ use gc_words::Header;
 pub(crate) const START: u8 = 1;
 /// In the old table: a start whose replica was seen.
 pub(crate) const TAKEN: u8 = 2;
+/// In the new table: a field that has yet to be compared.
+pub(crate) const DUE: u8 = 3;
 
 /// Returns the header of the object that starts at this place, if one does.
 #[inline(always)]
@@ -127,4 +130,24 @@ fn are_equal(one: &[u64], other: &[u64]) -> bool
         }
     }
     same
+}
+
+/// Adds the codes of an object.
+#[inline(always)]
+pub(crate) fn add_codes(row: &mut CodeRow, len: u16, due: bool)
+    requires { length row.old.codes + (len + 2) ≤ row.old.room }
+    ensures codes { row.new.codes ≡ row.old.codes ++ object_codes len (code_of due) }
+    ensures room { row.old.room ≤ row.new.room }
+{
+    row.add(START, usize::from(len) + 1);
+    if due {
+        row.fill(usize::from(len));
+    }
+}
+
+/// Returns the code of a field: `DUE`, or 0 if it is not due.
+pub(crate) fn code_of(due: bool) -> u8
+    ensures { result ≡ code_of due }
+{
+    if due { DUE } else { 0 }
 }

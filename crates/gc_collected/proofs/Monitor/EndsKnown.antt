@@ -8,7 +8,6 @@ use Rattle.gc_model.specs.Steps.{flipped, fresh_collection}
 use Rattle.gc_model.specs.Members.{In}
 use Rattle.gc_model.specs.Belonging.{IsNamed, IsOpened, IsSpaceGraph}
 use Rattle.gc_model.proofs.Public.{laid_range, lookup_in, in_map, in_map_from, placed}
-use Rattle.gc_monitor.proofs.Public.{settled_start, settled_back}
 use Rattle.gc_monitor.specs.Events.{Freed, flipped_tables, opening_tables}
 use Rattle.gc_monitor.specs.Tables.{Tables, watch_of}
 use Rattle.gc_monitor.specs.Telling.{IsMark}
@@ -62,11 +61,9 @@ dropped_known s c t after heap opened goes knows low freed =
 pub flipped_known : (s : State) (c : Collection) (t : Tables) → IsOpened s c → Knows s c t → 1 ≤ t.room → KnowsAll (flipped s c) (flipped_tables t)
 flipped_known s c t opened knows low =
     knows_fresh (flipped s c) 1 (flipped_tables t) refl refl refl
-    (λ a named. (let r = in_map_from placed (a, named.0) c.replicas named.1 in
-    inl (settled_start t.news a (ap (λ n. get_or t.news n 0) (sym (ap (λ (e : ℕ × Object). e.0) r.2)) ∙ knows.marks.news r.0 r.1))))
+    (λ a named. (let r = in_map_from placed (a, named.0) c.replicas named.1 in inl (ap (λ n. get_or t.news n 0) (sym (ap (λ (e : ℕ × Object). e.0) r.2)) ∙ knows.marks.news r.0 r.1)))
     (λ a mark. ⊎_elim
-    (λ e. (let r = knows.marks.places a (settled_back t.news a 1 (λ z. omega arith) e) in
-    (r.0.object, subst (λ n. In {X = ℕ × Object} (n, r.0.object) (map placed c.replicas)) r.2 (in_map placed r.0 c.replicas r.1))))
-    (λ e. absurd (knows.marks.free a (settled_back t.news a 2 (λ z. omega arith) e)))
+    (λ e. (let r = knows.marks.places a e in (r.0.object, subst (λ n. In {X = ℕ × Object} (n, r.0.object) (map placed c.replicas)) r.2 (in_map placed r.0 c.replicas r.1))))
+    (λ e. absurd (knows.marks.free a e))
     mark)
-    (λ a e. knows.marks.free a (settled_back t.news a 2 (λ z. omega arith) e)) knows.new_room low
+    knows.marks.free knows.new_room low

@@ -13,7 +13,7 @@ use Rattle.gc_model.specs.declared.step.StepReply.{StepReply}
 use Rattle.gc_model.proofs.Public.{begun_belongs}
 use Rattle.gc_monitor.specs.Events.{Freed, flipped_tables}
 use Rattle.gc_monitor.specs.Tables.{Tables, watch_of}
-use Rattle.gc_monitor.proofs.Public.{opening_watch, settled_len}
+use Rattle.gc_monitor.proofs.Public.{opening_watch}
 use Rattle.gc_collected.specs.Internal.Beside.{GoesBeside}
 use Rattle.gc_collected.specs.Internal.Knows.{Knows, KnowsAll, open_or_fresh}
 use Rattle.gc_collected.specs.Internal.Follows.{Follows}
@@ -76,4 +76,4 @@ follows_flipped s s' c t after heap first opened is stays flips f = subst (λ (x
     beside = subst (λ o. GoesBeside s o (watch_of t)) first f.goes
 
     goes : watch_of after ≡ opening_watch (heap_end (flipped s c))
-    goes = grind (arith, common_steps, flips, found, beside, settled_len)
+    goes = grind (arith, common_steps, flips, found, beside)

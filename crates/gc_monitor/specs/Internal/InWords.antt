@@ -1,9 +1,8 @@
 -- How the rows of a standing checker stand in words.
-use Rattle.std.specs.Prelude.{◌≡◌, ℕ, ◌+◌, ◌*◌, ◌/◌, ◌%◌, ◌^◌, ◌≤◌, ◌==◌, if◌then◌else◌, false, min, suc, List, [], ◌∷◌, length, map, slice_index, slice_index_or, Bool, nat_le}
+use Rattle.std.specs.Prelude.{◌≡◌, ℕ, ◌+◌, ◌*◌, ◌/◌, ◌%◌, ◌^◌, ◌≤◌, ◌==◌, if◌then◌else◌, false, min, suc, List, [], ◌∷◌, length, map, slice_index, slice_index_or}
 use Rattle.std.specs.List.{range_with_len}
 use Rattle.gc_graph.specs.Limits.{largest_space}
 use Rattle.gc_words.specs.Marks.{is_marked}
-use Rattle.gc_monitor.specs.Events.{code_of}
 
 -- ---- codes, of two bits each
 
@@ -46,32 +45,14 @@ pub record HasCodes (words : List ℕ) (len : ℕ) : Type 0 where
 abbrev pub freed : ℕ → ℕ
 freed code = if code == 2 then 1 else code
 
--- what a code of an old place stands for: 3, of a place where nothing was due in the new space that it was, for 0
-abbrev pub plain : ℕ → ℕ
-plain code = if code == 3 then 0 else code
-
 -- the code of a place, if its block of 256 places counts in this epoch; else it is freed
 abbrev pub code_now : List ℕ → ℕ → ℕ → ℕ → ℕ
-code_now epochs epoch place code = plain (if slice_index_or epochs (place / 256) 0 == epoch then code else freed code)
+code_now epochs epoch place code = if slice_index_or epochs (place / 256) 0 == epoch then code else freed code
 
 -- the same for the codes from a place on
 unfoldable pub codes_now : List ℕ → ℕ → ℕ → List ℕ → List ℕ
 codes_now epochs epoch place [] = []
 codes_now epochs epoch place (code ∷ codes) = code_now epochs epoch place code ∷ codes_now epochs epoch (suc place) codes
-
--- ---- codes of new places
-
--- the code of a place that is due or not
-abbrev pub mark_of : Bool → ℕ
-mark_of due = if due then 2 else 3
-
--- What a code of a new place stands for. A blank place is due from the front on.
-abbrev pub new_code : ℕ → ℕ → ℕ → ℕ
-new_code front place code = if code == 0 then code_of (nat_le front place) else if code == 2 then 3 else if code == 3 then 0 else code
-
--- the same for each place
-unfoldable pub news_in : ℕ → List ℕ → List ℕ
-news_in front codes = map (λ place. new_code front place (slice_index_or codes place 0)) (range_with_len 0 (length codes))
 
 -- ---- originals, of four bytes for two places
 

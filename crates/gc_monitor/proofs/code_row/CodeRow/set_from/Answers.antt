@@ -1,7 +1,8 @@
--- All places lie in one word.
-use Rattle.gc_monitor.specs.Internal.InWords.{mark_of}
+-- All words of the row are written.
+use Rattle.std.proofs.Common.{◌+◌, ◌≤◌, inl, inr, ⊎_elim, arith}
 use Rattle.gc_monitor.proofs.RowsDue.{row_is_set}
 use Rattle.gc_monitor.proofs.code_row.CodeRow.set_from.Goals as goal
 
-pub returns-then-first-count-le-PER_WORD-clause-codes : goal.returns-then-first-count-le-PER_WORD-clause-codes
-returns-then-first-count-le-PER_WORD-clause-codes c = row_is_set (mark_of c.args.due) _ _ c.args.first c.args.count c.set_in_word.ensures.len c.requires.within c.set_in_word.ensures.run c.set_in_word.ensures.others
+pub returns-clause-codes : goal.returns-clause-codes
+returns-clause-codes c = row_is_set _ _ _ _ _ c.loop-from.invariant.len c.requires.within (λ place low high. c.loop-from.invariant.run place low (omega arith))
+    (λ place out. c.loop-from.invariant.others place (⊎_elim (λ low. inl low) (λ behind. inr (let all : c.args.first + c.args.count ≤ place = behind in let end : c.loop-from.from ≤ c.args.first + c.args.count = c.loop-from.invariant.high in omega arith)) out))

@@ -1,12 +1,12 @@
 -- The codes of a run of places in one word change, and no others.
 use Rattle.std.proofs.Common.{get_or, sym, ◌∙◌, ap, arith}
-use Rattle.gc_monitor.specs.Internal.InWords.{mark_of}
+use Rattle.gc_monitor.specs.Events.{code_of}
 use Rattle.gc_monitor.specs.Internal.InWords.{Codes}
 use Rattle.gc_monitor.proofs.Packed.{HasRun, run_set, seen_length, length-codes}
 use Rattle.gc_monitor.proofs.code_row.CodeRow.set_in_word.Goals as goal
 use Rattle.gc_monitor.proofs.code_row.CodeRow.set_in_word.Goals.{After-with_run}
 
-run : (c : After-with_run) → HasRun (mark_of c.args.due) c.self.inside.words.items c.self.inside.len c.args.from c.args.count c.with_run.result
+run : (c : After-with_run) → HasRun (code_of c.args.due) c.self.inside.words.items c.self.inside.len c.args.from c.args.count c.with_run.result
 run c = run_set _ _ _ _ _ _ _ _ _ c.self.invariant.0 c.self.view_is c.requires.within c.requires.some c.requires.word c.index.ensures c.with_run.ensures.run c.with_run.ensures.others
 
 pub index-requires : goal.index-requires

@@ -13,11 +13,11 @@ agree : (c : After-due_words) → RowsAgree (the_view c.self.inside)
 agree c = agree_of _ c.self.invariant.5 (ap (λ (t : Tables). t.lost) c.self.view_is ∙ c.requires.found)
 
 -- the tables have the replica more
-added : (c : After-due_words) → record (the_view c.self.inside) { olds = c.take.new.self.codes; news = c.add-2.new.self.codes; origins = c.add.new.self.origins; missing = c.self.inside.missing + c.due_words.result }
+added : (c : After-due_words) → record (the_view c.self.inside) { olds = c.take.new.self.codes; news = c.add_codes.new.row.codes; origins = c.add.new.self.origins; missing = c.self.inside.missing + c.due_words.result }
     ≡ replica_added (the_view c.self.inside) c.args.header c.args.original c.args.due
 added c =
     replica_written _ c.args.header c.args.original _ c.due_words.result c.args.due _ _ _ (agree c) c.take.ensures.codes
-    (c.add-2.ensures.codes ∙ ap (λ n. c.self.inside.news.codes ++ object_codes n (code_of c.args.due)) c.len-2.ensures)
+    (c.add_codes.ensures.codes ∙ ap (λ n. c.self.inside.news.codes ++ object_codes n (code_of c.args.due)) c.len-2.ensures)
     (c.add.ensures.origins ∙ ap (λ n. c.self.inside.origins.origins ++ c.args.original ∷ 0 ∷ replicate n 0) c.len.ensures)
     refl (c.due_words.ensures ∙ ap (λ n. if c.args.due then n else 0) c.len-3.ensures)
 
@@ -31,7 +31,7 @@ invariant_of-self c =
       c.self.invariant.0,
       c.self.invariant.1,
       omega (arith, c.self.invariant.2, c.take.ensures.room),
-      omega (arith, c.self.invariant.3, c.add-2.ensures.room),
+      omega (arith, c.self.invariant.3, c.add_codes.ensures.room),
       omega (arith, c.self.invariant.4, c.add.ensures.room),
       inr (subst RowsAgree (sym (added k)) (agree_replica _ c.args.header _ _ (omega (arith, c.requires.room, news, c.self.invariant.1, room)) start (agree k))),
     )

@@ -5,4 +5,4 @@ use Rattle.gc_monitor.proofs.Freed.{length-now}
 use Rattle.gc_monitor.proofs.old_row.OldRow.len.Goals as goal
 
 pub returns : goal.returns
-returns c = c.len.ensures.len ∙ sym (length-now c.self.inside.epochs.items c.self.inside.epoch 0 c.self.inside.row.codes) ∙ ap (λ (t : OldCodes). length t.codes) c.self.view_is
+returns c = c.len.ensures ∙ sym (length-now c.self.inside.epochs.items c.self.inside.epoch 0 c.self.inside.row.codes) ∙ ap (λ (t : OldCodes). length t.codes) c.self.view_is
