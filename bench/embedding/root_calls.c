@@ -4,11 +4,7 @@
  * root, with ROOTS of them in use (2^20 by default), and with as many while it stores nil, numbers and references to low ones at random, four for each
  * short list. It does the same in each of ROUNDS rounds, 7 by default. Prints the longest call of work: of each call the least time of all rounds, and
  * of these the greatest; and the time that 99.9 % of the calls do not exceed. */
-#include <stdio.h>
-#include <stdlib.h>
-#include <time.h>
-
-#include "gcflip_heap.h"
+#include "timed_calls.h"
 
 enum {
     SIZE = 1 << 22, /* words */
@@ -30,21 +26,6 @@ static gcflip_heap heap = GCFLIP_NO_HEAP;
 static gcflip_pace pace;
 static double least[LISTS]; /* of each call, in microseconds */
 static unsigned long collections;
-
-static void must(uint32_t answer, uint32_t wanted, const char *call)
-{
-    if (answer != wanted) {
-        fprintf(stderr, "root_calls: %s: %s\n", call, gcflip_answer_name(answer));
-        exit(1);
-    }
-}
-
-static double microseconds(void)
-{
-    struct timespec now;
-    clock_gettime(CLOCK_MONOTONIC, &now);
-    return now.tv_sec * 1e6 + now.tv_nsec / 1e3;
-}
 
 /* Opens a heap whose extra roots refer to the objects in turn, and makes the list that the program keeps. */
 static void open_heap(uint32_t roots, uint32_t kept)
@@ -90,9 +71,9 @@ static void store(uint32_t roots, uint64_t *random)
 static double make_list(void)
 {
     gcflip_work work = {0, 0, 0, 0, 0};
-    double began = microseconds();
+    double began = microseconds(CLOCK_MONOTONIC);
     must(gcflip_heap_work_paced(&heap, &pace, 4 * PAIRS, &work), GCFLIP_DONE, "work_paced");
-    double taken = microseconds() - began;
+    double taken = microseconds(CLOCK_MONOTONIC) - began;
     if (work.last == GCFLIP_NO_ROOM)
         must(work.last, GCFLIP_FLIPPED, "work_paced");
     collections += work.last == GCFLIP_FLIPPED;

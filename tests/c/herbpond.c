@@ -546,35 +546,29 @@ static void longest_texts(void)
     hp_close(&h);
 }
 
+/* Calls on a root that is out of range, or refers to no text. */
+static void refused_text(hp_root p, uint32_t answer)
+{
+    FAILS(hp_bytes_join(&h, 4, TEXT, p, 0), answer, "hp_bytes_join");
+    FAILS(hp_bytes_join(&h, 4, TEXT, 0, p), answer, "hp_bytes_join");
+    FAILS(hp_bytes_part(&h, 4, TEXT, p, 0, 0), answer, "hp_bytes_part");
+    FAILS(hp_bytes_length(&h, p), answer, "hp_bytes_length");
+    FAILS(hp_bytes_read(&h, p, 0, found, 0), answer, "hp_bytes_read");
+    FAILS(hp_bytes_same(&h, p, 0), answer, "hp_bytes_same");
+    FAILS(hp_bytes_same(&h, 0, p), answer, "hp_bytes_same");
+    FAILS(hp_bytes_compare(&h, p, 0), answer, "hp_bytes_compare");
+    FAILS(hp_bytes_compare(&h, 0, p), answer, "hp_bytes_compare");
+}
+
 /* A root that is out of range, of which register 29 is the layer's own and no place of the stack was pushed. */
 static void refused_root(hp_root p)
 {
     FAILS(hp_new_bytes(&h, p, TEXT, source, 1), GCFLIP_OUT_OF_RANGE, "hp_new_bytes");
     FAILS(hp_bytes_join(&h, p, TEXT, 0, 0), GCFLIP_OUT_OF_RANGE, "hp_bytes_join");
-    FAILS(hp_bytes_join(&h, 4, TEXT, p, 0), GCFLIP_OUT_OF_RANGE, "hp_bytes_join");
-    FAILS(hp_bytes_join(&h, 4, TEXT, 0, p), GCFLIP_OUT_OF_RANGE, "hp_bytes_join");
     FAILS(hp_bytes_part(&h, p, TEXT, 0, 0, 1), GCFLIP_OUT_OF_RANGE, "hp_bytes_part");
     FAILS(hp_bytes_part(&h, 4, TEXT, p, 0, 1), GCFLIP_OUT_OF_RANGE, "hp_bytes_part");
-    FAILS(hp_bytes_length(&h, p), GCFLIP_OUT_OF_RANGE, "hp_bytes_length");
     FAILS(hp_bytes_read(&h, p, 0, found, 1), GCFLIP_OUT_OF_RANGE, "hp_bytes_read");
-    FAILS(hp_bytes_same(&h, p, 0), GCFLIP_OUT_OF_RANGE, "hp_bytes_same");
-    FAILS(hp_bytes_same(&h, 0, p), GCFLIP_OUT_OF_RANGE, "hp_bytes_same");
-    FAILS(hp_bytes_compare(&h, p, 0), GCFLIP_OUT_OF_RANGE, "hp_bytes_compare");
-    FAILS(hp_bytes_compare(&h, 0, p), GCFLIP_OUT_OF_RANGE, "hp_bytes_compare");
-}
-
-/* A root that refers to no text. */
-static void refused_value(hp_root p)
-{
-    FAILS(hp_bytes_join(&h, 4, TEXT, p, 0), GCFLIP_NO_OBJECT, "hp_bytes_join");
-    FAILS(hp_bytes_join(&h, 4, TEXT, 0, p), GCFLIP_NO_OBJECT, "hp_bytes_join");
-    FAILS(hp_bytes_part(&h, 4, TEXT, p, 0, 0), GCFLIP_NO_OBJECT, "hp_bytes_part");
-    FAILS(hp_bytes_length(&h, p), GCFLIP_NO_OBJECT, "hp_bytes_length");
-    FAILS(hp_bytes_read(&h, p, 0, found, 0), GCFLIP_NO_OBJECT, "hp_bytes_read");
-    FAILS(hp_bytes_same(&h, p, 0), GCFLIP_NO_OBJECT, "hp_bytes_same");
-    FAILS(hp_bytes_same(&h, 0, p), GCFLIP_NO_OBJECT, "hp_bytes_same");
-    FAILS(hp_bytes_compare(&h, p, 0), GCFLIP_NO_OBJECT, "hp_bytes_compare");
-    FAILS(hp_bytes_compare(&h, 0, p), GCFLIP_NO_OBJECT, "hp_bytes_compare");
+    refused_text(p, GCFLIP_OUT_OF_RANGE);
 }
 
 /* Calls on a text of 20 bytes in register 0 and on what is no text, in a heap that they leave as it was. */
@@ -591,7 +585,7 @@ static void refused_texts(void)
     refused_root(HP_OLD);
     refused_root(HP_STACK(0));
     for (hp_root p = 1; p < 5; p++)
-        refused_value(p);
+        refused_text(p, GCFLIP_NO_OBJECT);
     FAILS(hp_new_bytes(&h, 4, 256, source, 1), GCFLIP_OUT_OF_RANGE, "hp_new_bytes");
     FAILS(hp_bytes_join(&h, 4, 256, 0, 0), GCFLIP_OUT_OF_RANGE, "hp_bytes_join");
     FAILS(hp_bytes_part(&h, 4, 256, 0, 0, 1), GCFLIP_OUT_OF_RANGE, "hp_bytes_part");
