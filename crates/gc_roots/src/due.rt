@@ -69,9 +69,23 @@ impl DueRow {
         }
     }
 
-    /// Takes the mark of this place away, if it has one.
-    #[tactic(auto, using(crate::proofs::Rows::unmark_all, crate::proofs::Rows::unmark_some, crate::proofs::Marks::mark_is_gone, crate::proofs::Marks::other_marks_stay))]
+    /// Takes the mark of this place away, if it has one. Most places have none.
+    #[inline(always)]
     pub(crate) fn unmark(&mut self, place: usize)
+        requires { place < 64 * length self.old }
+        ensures len { length self.new ≡ length self.old }
+        ensures unmarked { is_marked self.new place ≡ false }
+        ensures others { (other : ℕ) → other ≢ place → is_marked self.new other ≡ is_marked self.old other }
+    {
+        if self.contains(place) {
+            self.take_mark(place);
+        }
+    }
+
+    /// Takes the mark of this place away, and passes the words of the second row that are 0.
+    #[inline(never)]
+    #[tactic(auto, using(crate::proofs::Rows::unmark_all, crate::proofs::Rows::unmark_some, crate::proofs::Marks::mark_is_gone, crate::proofs::Marks::other_marks_stay))]
+    fn take_mark(&mut self, place: usize)
         requires { place < 64 * length self.old }
         ensures len { length self.new ≡ length self.old }
         ensures unmarked { is_marked self.new place ≡ false }
@@ -85,8 +99,23 @@ impl DueRow {
         }
     }
 
-    /// Returns the first place that is marked. Takes constant time, since `unmark` has passed the words of the second row that are 0.
+    /// Returns the first place that is marked. Takes constant time, since `take_mark` has passed the words of the second row that are 0.
+    #[inline(always)]
     pub(crate) fn first(&self) -> Option<usize>
+        ensures none { result ≡ None → (k : ℕ) → is_marked self.now k ≡ false }
+        ensures marked { IfSome result (λ k. is_marked self.now k ≡ true) }
+        ensures within { IfSome result (λ k. k < 64 * length self.now) }
+        ensures before { IfSome result (λ k. (i : ℕ) → i < k → is_marked self.now i ≡ false) }
+    {
+        if self.low >= self.sums.len() {
+            return None;
+        }
+        self.first_mark()
+    }
+
+    /// Returns the first place that is marked, by the words of the second row that were not passed.
+    #[inline(never)]
+    fn first_mark(&self) -> Option<usize>
         ensures none { result ≡ None → (k : ℕ) → is_marked self.now k ≡ false }
         ensures marked { IfSome result (λ k. is_marked self.now k ≡ true) }
         ensures within { IfSome result (λ k. k < 64 * length self.now) }

@@ -70,6 +70,7 @@ impl RootLooks {
     }
 
     /// Compares extra root `k`, which holds this word, with its twin, whoever has written that.
+    #[inline(always)]
     pub fn look(&mut self, standing: &Monitor, k: u32, word: u64, twin: u64)
         ensures looked { (slots : ℕ) (olds news : List ℕ) → slots + k < length news → slice_index olds (slots + k) ≡ word
             → HasLooked (pairs_in standing.now.origins) slots olds news self.old

@@ -167,6 +167,7 @@ impl RootTwins {
 
     /// Looks at extra root `k`, which is the next one, and brings its twin up to date. Returns the twin, or the root's target if that has no replica.
     /// If the root is nil, and the last one in use too, then that is in use no more.
+    #[inline(always)]
     pub fn look(&mut self, heap: &Heap, collection: &Collection, k: usize) -> Result<u64, OldAddr>
         requires belongs { BelongsTo heap.now collection.now }
         requires keeps { KeepsTwins self.old (open_state heap.now collection.now) }
@@ -190,6 +191,7 @@ impl RootTwins {
     }
 
     /// Notes that the last extra root in use is not in use any more, if it is nil. Reads it only where the root with this twin is nil, too.
+    #[inline(always)]
     fn trim(&mut self, heap: &Heap, slots: usize, twin: u64)
         requires slots { slots ≡ roots_of heap.now.mutators }
         requires within { slots + self.old.used ≤ length heap.now.roots }
@@ -210,6 +212,7 @@ impl RootTwins {
     }
 
     /// Notes that the twin of extra root `k` is this word, where there are so many slots.
+    #[inline(always)]
     fn looked(&mut self, slots: usize, k: usize, word: u64)
         requires within { slots + k < length self.old.twins }
         requires low { k ≤ self.old.front }

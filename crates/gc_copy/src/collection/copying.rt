@@ -1,7 +1,7 @@
-ghost use Rattle.std.specs.Prelude.{◌≤◌, ◌<◌, IfSome, ◌≡◌, IfOk, OnOk, OnErr, Some, None, true, false, IsTrue, IsSome};
+ghost use Rattle.std.specs.Prelude.{◌≤◌, ◌<◌, IfSome, ◌≡◌, IfOk, MatchResult, OnOk, OnErr, Some, None, true, false, IsTrue, IsSome, ⊤};
 ghost use Rattle.std.specs.Option.{option_map};
 ghost use Rattle.gc_graph.specs.Limits.{largest_space};
-ghost use Rattle.gc_graph.specs.Graph.{lookup};
+ghost use Rattle.gc_graph.specs.Graph.{Ref, lookup};
 ghost use Rattle.gc_words.specs.Word.{value_of, word_of};
 ghost use Rattle.gc_words.specs.Image.{Block, block_at, is_start, header_at, field_at};
 ghost use Rattle.gc_words.specs.Space.{IsSpace, HasRoomFor, end_of, with_block};
@@ -12,6 +12,7 @@ ghost use Rattle.gc_model.specs.State.{replica_of as replica_in, moved};
 ghost use Rattle.gc_model.specs.Steps.{place_replica as placed_in, with_replica as with_replica_in};
 ghost use Rattle.gc_model.specs.Steps.{bring_up_to_date as brought_in, apply_entry as applied_in};
 ghost use Rattle.gc_copy.specs.Entries.{entry_in};
+ghost use Rattle.gc_copy.specs.Twins.{IsTwin};
 ghost use Rattle.gc_copy.specs.Words.{collection_in, mark_of, BelongsTo};
 ghost use Rattle.gc_copy.specs.Internal.Words.{replica_block, HasReplicaWord, KeepsGraph, KeepsRest, KeepsStarts};
 
@@ -45,6 +46,25 @@ impl Collection {
         }
     }
 
+    /// Returns the word for the new space, or the original that the word refers to if that has no replica.
+    #[inline(always)]
+    pub(super) fn twin_of(&self, heap: &Heap, word: u64) -> Result<u64, OldAddr>
+        requires belongs { BelongsTo heap.now self.now }
+        requires word { IsRootWord heap.now.space.words word }
+        ensures twin { MatchResult result (IsTwin (collection_in self.now) (value_of word))
+            (λ a. (value_of word ≡ Ref a.0) × (replica_in (collection_in self.now) a.0 ≡ None)) }
+        ensures start { MatchResult result (λ _. ⊤) (λ a. IsTrue (is_start heap.now.space.words a.0)) }
+    {
+        let Some(at) = target_of(word) else {
+            return Ok(word);
+        };
+        let target = OldAddr(at.0);
+        match self.replica_of(heap, target) {
+            Some(replica) => Ok(encode(Value::Ref(Addr(replica.0)))),
+            None => Err(target),
+        }
+    }
+
     /// Returns the word for the new space: a reference to an original becomes one to its replica.
     pub(super) fn moved_word(&self, heap: &Heap, word: u64) -> u64
         requires belongs { BelongsTo heap.now self.now }
@@ -52,12 +72,9 @@ impl Collection {
         requires replica { HasReplicaWord (collection_in self.now) word }
         ensures { result ≡ word_of (moved (collection_in self.now) (value_of word)) }
     {
-        let Some(target) = target_of(word) else {
-            return word;
-        };
-        match self.replica_of(heap, OldAddr(target.0)) {
-            Some(replica) => encode(Value::Ref(Addr(replica.0))),
-            None => word,
+        match self.twin_of(heap, word) {
+            Ok(moved) => moved,
+            Err(_original) => word,
         }
     }
 

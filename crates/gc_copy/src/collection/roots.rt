@@ -65,6 +65,7 @@ impl Collection {
     }
 
     /// Returns the word that the root at this place takes at a flip, or the object that the root refers to if that has no replica. Reads one root.
+    #[inline(always)]
     pub fn root_twin(&self, heap: &Heap, place: usize) -> Result<u64, OldAddr>
         requires belongs { BelongsTo heap.now self.now }
         requires within { place < length heap.now.roots }
@@ -72,11 +73,7 @@ impl Collection {
             (λ a. (root (graph_in heap.now) place ≡ Ref a.0) × (replica_of (collection_in self.now) a.0 ≡ None)) }
         ensures start { MatchResult result (λ _. ⊤) (λ a. IsTrue (is_start heap.now.space.words a.0)) }
     {
-        let word = heap.roots()[place];
-        if let Some(target) = self.target_without_replica(heap, word) {
-            return Err(target);
-        }
-        Ok(self.moved_word(heap, word))
+        self.twin_of(heap, heap.roots()[place])
     }
 
     /// Returns the object that a word refers to, if it has no replica.

@@ -1,7 +1,7 @@
 -- If the word has no mark left, its summary mark goes, and the words of zeros below are passed.
 use Rattle.std.proofs.Common.{◌≡◌, ◌/◌, ℕ, List, arith, ap, subst, get_or, length}
 use Rattle.gc_roots.proofs.Rows.{lower_row, read_back, unmark_all_by}
-use Rattle.gc_roots.proofs.due.DueRow.unmark.Goals as goal
+use Rattle.gc_roots.proofs.due.DueRow.take_mark.Goals as goal
 
 pub invariant_of-self : goal.invariant_of-self
 invariant_of-self c =
