@@ -13,9 +13,10 @@ enum {
     PAIRS = 4,  /* of a list, of four words each */
     STORES = 4, /* for each list */
     LOW = 4096, /* of so many roots */
-    LIST = 16,  /* places: three slots of mutator 0, and the first extra root */
+    LIST = 16,  /* places: four slots of mutator 0, and the first extra root */
     KEPT,
     NUMBER,
+    PAIR,
     ROOT = 32
 };
 
@@ -26,6 +27,13 @@ static gcflip_heap heap = GCFLIP_NO_HEAP;
 static gcflip_pace pace;
 static double least[LISTS]; /* of each call, in microseconds */
 static unsigned long collections;
+
+/* Puts a pair with the number in front of the list. */
+static void extend(uint32_t list)
+{
+    must(gcflip_new_pair(&heap, 0, PAIR, 1, NUMBER, list), GCFLIP_MADE, "new_pair");
+    must(gcflip_copy(&heap, list, PAIR), GCFLIP_DONE, "copy");
+}
 
 /* Opens a heap whose extra roots refer to the objects in turn, and makes the list that the program keeps. */
 static void open_heap(uint32_t roots, uint32_t kept)
@@ -42,7 +50,7 @@ static void open_heap(uint32_t roots, uint32_t kept)
         else
             must(gcflip_copy(&heap, ROOT + k, ROOT + k % OBJECTS), GCFLIP_DONE, "copy");
     for (uint32_t k = 0; k < kept; k++)
-        must(gcflip_new_pair(&heap, 0, KEPT, 1, NUMBER, KEPT), GCFLIP_MADE, "new_pair");
+        extend(KEPT);
     must(gcflip_heap_pace(&heap, &pace), GCFLIP_DONE, "pace");
 }
 
@@ -79,7 +87,7 @@ static double make_list(void)
     collections += work.last == GCFLIP_FLIPPED;
     must(gcflip_set_nil(&heap, LIST), GCFLIP_DONE, "set_nil");
     for (int i = 0; i < PAIRS; i++)
-        must(gcflip_new_pair(&heap, 0, LIST, 1, NUMBER, LIST), GCFLIP_MADE, "new_pair");
+        extend(LIST);
     return taken;
 }
 

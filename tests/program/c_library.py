@@ -221,6 +221,31 @@ def recorded_work(program, folder):
     yield "recorded work is played", difference(run(program, ["play", record]), Outcome(REPLIES_OF_RECORDED_WORK))
 
 
+# How often record_places.c runs, and what its calls are replied to in the lines of its record.
+RUNS_BY_PLACES = 20
+
+
+def told(trace, replies):
+    """Returns the replies to the looks and the flips of a trace."""
+    return [reply for event, reply in zip(events(trace), replies.split(b"\n")) if b" look " in event or event == b"c flip"]
+
+
+def recorded_places(program, folder):
+    """Checks that recordings of random calls by places play, and that looks and flips get the replies that the program got."""
+    built = library(folder)
+    if built is None:
+        return
+    path, why = built.build(["gcc", *SANITIZERS], "record_places.c", built.archive())
+    record = os.path.join(folder, "record")
+    for seed in range(1, 1 + RUNS_BY_PLACES):
+        found = done([path, record, str(seed)]) if why is None else Outcome()
+        played = run(program, ["play", record])
+        with open(record, "rb") as file:
+            replies = told(file.read(), played.stdout)
+        why_not = why or difference(found, Outcome(b"".join(reply + b"\n" for reply in replies)))
+        yield "record_places.c %d" % seed, why_not or (None if replies.count(b"saw nil") > 1000 else "%d looks" % len(replies))
+
+
 def not_in_record_ends():
     """Returns the calls that a recording knows and that tests/c/record_ends.c does not make."""
     with open(os.path.join(TOP, "bindings", "c", "gcflip_record.h"), encoding="utf-8") as file:
@@ -231,8 +256,8 @@ def not_in_record_ends():
 
 
 def recording_that_ends(program, folder):
-    """Checks that a recording ends at a size that no trace has, at an extra root and at a root by its place, says so, and plays up to that place; and that then, and without
-    a stream, no call writes anything."""
+    """Checks that a recording ends at a size that no trace has, at a root that it has not, where it needs spare slots and at an address, says so, and plays up to that place; and
+    that then, and without a stream, no call writes anything."""
     missing = not_in_record_ends()
     yield "record_ends.c makes each call that a recording knows", None if not missing else "not %s" % ", ".join(missing)
     built = library(folder)
@@ -242,13 +267,10 @@ def recording_that_ends(program, folder):
     path, why = built.build(["gcc", *SANITIZERS], "record_ends.c", built.archive())
     said = b"gcflip_record.h: the recording ends here: a trace has no size of 1048577 words\n"
     said += said
-    said += b"".join(b"gcflip_record.h: the recording ends here: a trace has no extra root %d\n" % root for root in (3, 3, 0, 0, 1, 2))
-    said += b"gcflip_record.h: the recording ends here: a trace has no reference by the address 1\n"
-    said += b"".join(b"gcflip_record.h: the recording ends here: a trace has no %s by places\n" % name for name in (b"new", b"set_number", b"copy", b"get", b"put", b"same", b"look", b"set_nil", b"peek", b"put_number",
-                                                                                                                            b"put_nil", b"new_raw", b"new_pair", b"new_from", b"gather", b"spread", b"new_with", b"put_sure", b"fill",
-                                                                                                                            b"copy_fields", b"new_bytes", b"bytes_join", b"bytes_part",
-                                                                                                                            b"bytes_write"))
-    said += b"gcflip_record.h: the recording ends here: a trace has no extra root 3\n"
+    needed = 2 * [b"a number"] + [b"nil", b"a value"] + 4 * [b"bytes"] + 11 * [b"a root of another mutator"]
+    said += b"".join(b"gcflip_record.h: the recording ends here: gcflip_trace_spare gives no slots for %s\n" % purpose for purpose in needed)
+    said += 12 * b"gcflip_record.h: the recording ends here: a trace has no root at place 272\n"
+    said += 2 * b"gcflip_record.h: the recording ends here: a trace has no reference by the address 1\n"
     yield "record_ends.c", why or difference(done([path, record]), Outcome(stderr=said))
     yield "a recording that ended is played", difference(run(program, ["play", record]), Outcome(b"made\nbegun\ndropped\n"))
 
@@ -546,5 +568,5 @@ def begins_after_many(_program, folder):
     yield "instructions of a begin after a large one", why_few or why_many or told
 
 
-GROUPS = [example_programs, image_threads, huge_pages, long_objects, pauses, programs, musl, images, crash_in_a_self_test, large_heaps, live_and_far, pages, limits, work_remembers, given_up_at_once, begins_after_many, rebuilt, pkg_config, texts, plays, recorded_work, recording_that_ends, root_reads,
+GROUPS = [example_programs, image_threads, huge_pages, long_objects, pauses, programs, musl, images, crash_in_a_self_test, large_heaps, live_and_far, pages, limits, work_remembers, given_up_at_once, begins_after_many, rebuilt, pkg_config, texts, plays, recorded_work, recorded_places, recording_that_ends, root_reads,
           long_run, short_soak]
