@@ -3,7 +3,7 @@
 A symbol in the list stays, with its type, as docs/EMBEDDING.md says under 'Compatibility'.
 
 It tests bindings/c/symbols.txt, the list of what programs may link: compared with the headers, by C99, C11 and C++11 with their types, and with the
-symbols of the archive and of the shared library, both ways; all headers in one file; the numbers that calls return, with their classes in C and
+symbols of the archive and of the shared library, both ways; all headers in one file; the calls that are deprecated; the numbers that calls return, with their classes in C and
 Python; the places that say the version; the dates of CHANGELOG.
 """
 import os
@@ -16,7 +16,7 @@ from .harness import file_of, skip
 
 BINDINGS = os.path.join(TOP, "bindings")
 LIST = os.path.join(BINDINGS, "c", "symbols.txt")
-HEADERS = ["gcflip.h", "gcflip_heap.h", "gcflip_images.h"]
+HEADERS = ["gcflip.h", "gcflip_heap.h", "gcflip_slots.h", "gcflip_images.h"]
 DECLARED = re.compile(r"^((?:const )?\w+ \*?gcflip_\w+\([^;{]*\));", re.M)
 NAME = re.compile(r"gcflip_\w+(?=\()")
 
@@ -100,6 +100,29 @@ def types(_program, folder):
         yield "a snapshot is one in %s" % name, why_not_compiled(words, folder, HEADERS, [CALL_WITH.replace("%s", "gcflip_snapshot")])
         for what, line in [("another type", WRONG_TYPE), ("what a look writes, for a snapshot,", CALL_WITH.replace("%s", "gcflip_view"))]:
             yield "%s is refused in %s" % (what, name), None if why_not_compiled(words, folder, HEADERS, [line]) else "it is not"
+
+
+# A file of C whose program asks to be told of deprecated calls, and takes the address of each of these functions.
+USES = "%s#include \"gcflip_heap.h\"\nextern const void *uses[];\nconst void *uses[] = {%s};\n"
+TOLD = re.compile(r"(?m)warning: .(gcflip_\w+). is deprecated: (gcflip_\w+) takes its place")
+
+
+def deprecated(_program, folder):
+    """A program that asks for it is told of each call of gcflip_slots.h, with the call of gcflip_heap.h that takes its place. Others are told nothing."""
+    if not shutil.which("gcc"):
+        skip("c_symbols.deprecated", "no gcc")
+        return
+    names = {header: {NAME.search(line).group() for line in declared(header)} for header in ("gcflip_heap.h", "gcflip_slots.h")}
+    words = ["gcc", "-std=gnu11", "-fsyntax-only", "-I" + os.path.join(BINDINGS, "c")]
+    told = {}
+    for asked in ("", "#define GCFLIP_WARN_OF_SLOTS\n"):
+        text = USES % (asked, ", ".join("(const void *)" + name for row in names.values() for name in sorted(row)))
+        compiled = done([*words, file_of(folder, "uses.c", text.encode())])
+        told[asked] = dict(TOLD.findall(compiled.stderr.decode().replace("\u2018", "'").replace("\u2019", "'")))
+        yield "deprecated calls are compiled, %s" % (asked.strip() or "as they are"), None if compiled.status == 0 else compiled.stderr.decode()
+    yield "a program that does not ask is told nothing", why_not_equal(told[""], {})
+    yield "each call of gcflip_slots.h is told, and no other", why_not_equal(told[asked], names["gcflip_slots.h"])
+    yield "what takes its place is in gcflip_heap.h", None if set(told[asked].values()) <= names["gcflip_heap.h"] else str(told[asked])
 
 
 def versions(_program, _folder):
@@ -188,4 +211,4 @@ def classes(_program, folder):
     yield "answers without an exception", why_not_equal(never_raised, {"OPEN", "NO_ROOM", "NOT_BEGUN", "STARVED", "LONG_PATH"})
 
 
-GROUPS = [symbols, types, answers, classes, versions]
+GROUPS = [symbols, types, deprecated, answers, classes, versions]

@@ -4,7 +4,7 @@ import re
 
 from .crates import TOP
 
-HEADERS = ("gcflip.h", "gcflip_heap.h", "gcflip_images.h", "gcflip_answers.h")
+HEADERS = ("gcflip.h", "gcflip_heap.h", "gcflip_slots.h", "gcflip_images.h", "gcflip_answers.h")
 SYMBOLS = os.path.join(TOP, "bindings", "c", "symbols.txt")
 
 # A section's title is the first sentence, or the first line, of its comment.

@@ -218,6 +218,7 @@ are for. Each row has one function of the headers for C:
 ABOUT = {
     "gcflip.h": "The checker. All but the conveniences is proved.",
     "gcflip_heap.h": "The collected heap. All but the inline functions, which return a record or a count, is proved.",
+    "gcflip_slots.h": "Commands on slots by their numbers, which are deprecated, and go with version 0.3. All are proved.",
     "gcflip_images.h": "The library for adapters. Nothing of it is proved, and it has no names in Rust and Python. Only the check and the inference return `NO_MEMORY`. "
                        "Elsewhere a failed allocation is the fault `GCFLIP_FAULT_MEMORY`, or NULL from `gcflip_collection_open`. The header says so, and "
                        "`tests/c/refused_images.c` makes each allocation fail.",

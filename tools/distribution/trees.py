@@ -21,13 +21,13 @@ PYTHON, RUST, PAGE = "bindings/python/README.md", "bindings/rust/README.md", "do
 DOCUMENTS = ["README.md", "CHANGELOG.md", TRUST, "docs/FORMATS.md", "docs/TUTORIAL.md", "docs/EMBEDDING.md", "docs/CALLS.md", "docs/FAQ.md", "docs/CERTIFY.md", "docs/GLOSSARY.md", PAGE, "docs/RATTLE.md", "docs/RELATED.md"]
 COMPLETIONS = {"share/bash-completion/completions/gcflip": "gcflip.bash", "share/zsh/site-functions/_gcflip": "_gcflip",
                "share/fish/vendor_completions.d/gcflip.fish": "gcflip.fish"}
-HEADERS = ["gcflip_answers.h", "gcflip.h", "gcflip_heap.h", "gcflip_images.h", "gcflip_record.h", "gcflip_allocator.h", "herbpond.h", "herbpond_arrays.h",
+HEADERS = ["gcflip_answers.h", "gcflip.h", "gcflip_heap.h", "gcflip_slots.h", "gcflip_images.h", "gcflip_record.h", "gcflip_allocator.h", "herbpond.h", "herbpond_arrays.h",
            "herbpond.hpp"]
 # The headers of the heap with a collector's thread, and the source of the thread, which is not proved.
 BESIDE_HEADERS, THREAD_SOURCE = ["gcflip_beside.h", "gcflip_thread.h"], "gcflip_thread.c"
 ARCHIVES = ("libgcflip.a", "libgcflip_beside.a")
 # The headers that the tests of the crate compare it with, and where the crate has the archives.
-COMPARED = HEADERS[:3]
+COMPARED = HEADERS[:4]
 FOLDER_OF_CRATE = "lib/x86_64-unknown-linux-gnu"
 
 
