@@ -6,22 +6,22 @@
 #include <string.h>
 
 enum { WORDS = 8 << 20, WORD_BYTES = 8, KIB = 1024, CELLS = 100000 };
-enum { NUMBER = 0, LIST = 1, CELL = 2 }; /* slots */
+enum { NUMBER = 16, LIST, CELL }; /* places of slots of mutator 0 */
 
 /* Puts a number before the list. */
 static bool push(gcflip_heap *heap, uint64_t number)
 {
-    gcflip_heap_set_number(heap, 0, NUMBER, number);
-    return gcflip_heap_new_pair(heap, 0, CELL, 1, NUMBER, LIST) == GCFLIP_MADE && gcflip_heap_move(heap, 0, LIST, CELL) == GCFLIP_DONE;
+    gcflip_set_number(heap, NUMBER, number);
+    return gcflip_new_pair(heap, 0, CELL, 1, NUMBER, LIST) == GCFLIP_MADE && gcflip_copy(heap, LIST, CELL) == GCFLIP_DONE;
 }
 
 /* Returns the sum of the list's numbers. Afterwards the list is empty. */
 static uint64_t sum_of_list(gcflip_heap *heap)
 {
     uint64_t sum = 0, number = 0;
-    while (gcflip_heap_get(heap, 0, NUMBER, LIST, 0, &number) == GCFLIP_NUMBER) {
+    while (gcflip_get(heap, NUMBER, LIST, 0, &number) == GCFLIP_NUMBER) {
         sum += number;
-        gcflip_heap_get(heap, 0, LIST, LIST, 1, &number);
+        gcflip_get(heap, LIST, LIST, 1, &number);
     }
     return sum;
 }
