@@ -5,7 +5,7 @@
 #include "own_allocator.h"
 #include <string.h>
 
-enum { MUTATORS = 2, EXTRA = 20, SPARE = 14, FIRST_EXTRA = 48, PLACES = FIRST_EXTRA + EXTRA, WORDS = 500, CALLS = 40000 };
+enum { MUTATORS = 2, EXTRA = 20, SPARE = 14, FIRST_EXTRA = 48, PLACES = FIRST_EXTRA + EXTRA, WORDS = 260, CALLS = 40000 };
 
 FILE *gcflip_trace;
 
@@ -25,6 +25,12 @@ static uint32_t any_root(void)
 {
     uint32_t place = below(PLACES - 2);
     return place < SPARE ? place : place + 2;
+}
+
+/* Returns one of few roots, of which most refer to texts. */
+static uint32_t any_text(void)
+{
+    return FIRST_EXTRA + 8 + below(3);
 }
 
 static uint8_t any_mutator(void)
@@ -169,13 +175,13 @@ static uint32_t perform(uint32_t call)
     case 17:
         return gcflip_same(&heap, any_root(), any_root());
     case 18:
-        return gcflip_new_bytes(&heap, any_mutator(), any_root(), below(256), bytes, below(30));
+        return gcflip_new_bytes(&heap, any_mutator(), any_text(), below(256), bytes, below(30));
     case 19:
-        return gcflip_bytes_join(&heap, any_mutator(), any_root(), below(256), any_root(), any_root());
+        return gcflip_bytes_join(&heap, any_mutator(), any_root(), below(256), any_text(), any_text());
     case 20:
-        return gcflip_bytes_part(&heap, any_mutator(), any_root(), below(256), any_root(), below(8), below(8));
+        return gcflip_bytes_part(&heap, any_mutator(), any_root(), below(256), any_text(), below(8), below(8));
     case 21:
-        return gcflip_bytes_write(&heap, any_mutator(), any_root(), below(8), bytes, below(16));
+        return gcflip_bytes_write(&heap, any_mutator(), any_text(), below(8), bytes, below(16));
     case 22:
         return gcflip_heap_root_load(&heap, any_mutator(), any_slot(), below(EXTRA));
     case 23:
@@ -197,7 +203,7 @@ static uint32_t perform(uint32_t call)
     }
 }
 
-enum { KINDS = 40 };
+enum { KINDS = 33 };
 
 int main(int count, char **words)
 {
