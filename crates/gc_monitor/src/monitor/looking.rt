@@ -1,6 +1,6 @@
 //! Fields of replicas, compared with those of their originals as they are now.
 use super::Monitor;
-use crate::walking::header_at;
+use crate::walking::{header_at, read_word};
 use gc_words::{Addr, Header, field_index};
 
 /// A field of a replica: the header and the original of the replica, and the place of the field in the new space.
@@ -73,7 +73,7 @@ impl Monitor {
         if original == 0 {
             return None;
         }
-        let header = Header::read(word)?;
+        let header = read_word(word)?;
         if i >= header.len() {
             return None;
         }
@@ -89,6 +89,7 @@ impl Monitor {
     }
 
     /// Compares the fields from field `i` of the replica at `at` on, up to field `end` of the replica at `to`, as they are now.
+    #[inline(never)]
     pub fn look_all(&mut self, old: &[u64], new: &[u64], at: u32, i: u16, to: u32, end: u16)
         ensures lost { IsTrue self.old.lost → IsTrue self.new.lost }
         ensures looked { IsFalse self.new.lost → LookedAll old.now new.now at i to end self.old self.new }
@@ -142,6 +143,23 @@ impl Monitor {
             self.lost = true;
             return;
         }
+        if first > 0 {
+            self.look_part(old, new, header, at, first);
+            return;
+        }
+        self.look_fields(old, new, header, at, 0, header.len());
+    }
+
+    // Compares the fields from `first` on of the replica at `at`, which has this header.
+    #[inline(never)]
+    fn look_part(&mut self, old: &[u64], new: &[u64], header: Header, at: u32, first: u16)
+        requires found { IsFalse self.old.lost }
+        requires header { read_header (slice_index new.now at) ≡ Some header }
+        requires more { first < header.len }
+        ensures looked { IsFalse self.new.lost → LooksTo old.now new.now at first (header.len - first) self.old self.new }
+        ensures stays { ((k : ℕ) (mid : Tables) → first + k < header.len → LooksTo old.now new.now at first k self.old mid → CanLook old.now new.now at (first + k) mid)
+            → IsFalse self.new.lost }
+    {
         self.look_fields(old, new, header, at, first, header.len());
     }
 
