@@ -36,7 +36,8 @@ impl Monitor {
         }
         match self.compared(old, new, at, i) {
             None => self.lose(),
-            Some(alike) => self.set_due(field_index(Addr(at), i), !alike),
+            Some(true) => self.set_due(field_index(Addr(at), i), false),
+            Some(false) => self.set_due(field_index(Addr(at), i), true),
         }
     }
 
@@ -129,6 +130,7 @@ impl Monitor {
     #[inline(always)]
     fn look_rest(&mut self, old: &[u64], new: &[u64], header: Header, at: u32, first: u16)
         requires found { IsFalse self.old.lost }
+        requires within { at < length new.now }
         requires header { read_header (slice_index new.now at) ≡ Some header }
         ensures raw { IsTrue header.raw → self.new ≡ self.old }
         ensures looked { IsFalse header.raw → IsFalse self.new.lost → (first ≤ header.len) × LooksTo old.now new.now at first (header.len - first) self.old self.new }
@@ -136,31 +138,32 @@ impl Monitor {
             → ((k : ℕ) (mid : Tables) → first + k < header.len → LooksTo old.now new.now at first k self.old mid → CanLook old.now new.now at (first + k) mid)
             → IsFalse self.new.lost }
     {
-        if header.is_raw() || first == header.len() {
-            return;
-        }
-        if first > header.len() {
-            self.lost = true;
+        if header.is_raw() {
             return;
         }
         if first > 0 {
-            self.look_part(old, new, header, at, first);
+            self.look_behind(old, new, at, first, header.len());
             return;
         }
-        self.look_fields(old, new, header, at, 0, header.len());
+        if header.len() > 0 {
+            self.look_fields(old, new, header, at, 0, header.len());
+        }
     }
 
-    // Compares the fields from `first` on of the replica at `at`, which has this header.
+    // Compares the fields from `first` on, and before `stop`, of the replica at `at`, which may not be raw, if there are such fields.
     #[inline(never)]
-    fn look_part(&mut self, old: &[u64], new: &[u64], header: Header, at: u32, first: u16)
+    fn look_behind(&mut self, old: &[u64], new: &[u64], at: u32, first: u16, stop: u16)
         requires found { IsFalse self.old.lost }
-        requires header { read_header (slice_index new.now at) ≡ Some header }
-        requires more { first < header.len }
-        ensures looked { IsFalse self.new.lost → LooksTo old.now new.now at first (header.len - first) self.old self.new }
-        ensures stays { ((k : ℕ) (mid : Tables) → first + k < header.len → LooksTo old.now new.now at first k self.old mid → CanLook old.now new.now at (first + k) mid)
+        ensures looked { IsFalse self.new.lost → (first ≤ stop) × LooksTo old.now new.now at first (stop - first) self.old self.new }
+        ensures stays { (h : Header) → at < length new.now → read_header (slice_index new.now at) ≡ Some h → IsFalse h.raw → first ≤ stop
+            → ((k : ℕ) (mid : Tables) → first + k < stop → LooksTo old.now new.now at first k self.old mid → CanLook old.now new.now at (first + k) mid)
             → IsFalse self.new.lost }
     {
-        self.look_fields(old, new, header, at, first, header.len());
+        if first > stop {
+            self.lost = true;
+        } else if first < stop {
+            self.look_last(old, new, at, first, stop);
+        }
     }
 
     // Compares the fields from `first` on, and before `stop`, of the replica at `at`, which may not be raw.
