@@ -199,7 +199,7 @@ impl Monitor {
         if self.news.len() >= new.len() {
             return;
         }
-        self.place_next(old, new);
+        let _ = self.place_next(old, new);
     }
 
     /// The walk over the new space goes on to its end, replica by replica, each of which is that of the object that its link claims.
@@ -213,18 +213,19 @@ impl Monitor {
             return;
         }
         while self.news.len() < new.len() {
-            self.place_next(old, new);
-            if self.lost {
+            if !self.place_next(old, new) {
                 return;
             }
         }
     }
 
-    // The walk over the new space goes on by the next object.
+    // The walk over the new space goes on by the next object. Returns whether nothing is lost.
     #[inline(always)]
-    fn place_next(&mut self, old: &[u64], new: &[u64])
+    fn place_next(&mut self, old: &[u64], new: &[u64]) -> bool
         requires found { IsFalse self.old.lost }
         requires more { length self.old.news < length new.now }
+        ensures found { IsTrue result → IsFalse self.new.lost }
+        ensures lost { IsFalse result → IsTrue self.new.lost }
         ensures placed { IsFalse self.new.lost → Placed old.now new.now self.old self.new }
         ensures copied { IsFalse self.new.lost → OwesNone old.now new.now self.old self.new }
         ensures stays { CanPlaceNext old.now new.now self.old → IsFalse self.new.lost }
@@ -232,17 +233,18 @@ impl Monitor {
         let at = self.news.len();
         let Some(header) = next_header(new, at, self.room) else {
             self.lost = true;
-            return;
+            return false;
         };
         let Some(original) = claim_in(old, new, &self.olds, at) else {
             self.lost = true;
-            return;
+            return false;
         };
         if header.is_raw() {
             let _ = self.add_raw(old, new, header, original, at);
-            return;
+            return true;
         }
         self.add_replica(header, original, true);
+        true
     }
 
     // The tables have a raw replica more, which starts at `at`. Returns whether it is a copy of its original, whose fields are not due.

@@ -106,8 +106,7 @@ impl Monitor {
                 self.lost = true;
                 return;
             };
-            self.look_rest(old, new, header, place, field);
-            if self.lost {
+            if !self.look_rest(old, new, header, place, field) {
                 return;
             }
             if u32::from(header.len()) + 2 > to - place {
@@ -126,12 +125,14 @@ impl Monitor {
         }
     }
 
-    // Compares the fields from `first` on of the replica at `at`, which has this header, unless it is raw.
+    // Compares the fields from `first` on of the replica at `at`, which has this header, unless it is raw. Returns whether nothing is lost.
     #[inline(always)]
-    fn look_rest(&mut self, old: &[u64], new: &[u64], header: Header, at: u32, first: u16)
+    fn look_rest(&mut self, old: &[u64], new: &[u64], header: Header, at: u32, first: u16) -> bool
         requires found { IsFalse self.old.lost }
         requires within { at < length new.now }
         requires header { read_header (slice_index new.now at) ≡ Some header }
+        ensures found { IsTrue result → IsFalse self.new.lost }
+        ensures lost { IsFalse result → IsTrue self.new.lost }
         ensures raw { IsTrue header.raw → self.new ≡ self.old }
         ensures looked { IsFalse header.raw → IsFalse self.new.lost → (first ≤ header.len) × LooksTo old.now new.now at first (header.len - first) self.old self.new }
         ensures stays { IsFalse header.raw → first ≤ header.len
@@ -139,15 +140,16 @@ impl Monitor {
             → IsFalse self.new.lost }
     {
         if header.is_raw() {
-            return;
+            return true;
         }
         if first > 0 {
             self.look_behind(old, new, at, first, header.len());
-            return;
+            return !self.lost;
         }
-        if header.len() > 0 {
-            self.look_fields(old, new, header, at, 0, header.len());
+        if header.len() == 0 {
+            return true;
         }
+        self.look_fields(old, new, header, at, 0, header.len())
     }
 
     // Compares the fields from `first` on, and before `stop`, of the replica at `at`, which may not be raw, if there are such fields.
@@ -185,10 +187,10 @@ impl Monitor {
             self.lost = true;
             return;
         }
-        self.look_fields(old, new, header, at, first, stop);
+        let _ = self.look_fields(old, new, header, at, first, stop);
     }
 
-    // Compares the fields from `first` on, and before `stop`, of the replica at `at`, which has this header.
+    // Compares the fields from `first` on, and before `stop`, of the replica at `at`, which has this header. Returns whether nothing is lost.
     #[inline(always)]
     fn look_fields(
         &mut self,
@@ -198,10 +200,12 @@ impl Monitor {
         at: u32,
         first: u16,
         stop: u16,
-    )
+    ) -> bool
         requires found { IsFalse self.old.lost }
         requires header { read_header (slice_index new.now at) ≡ Some header }
         requires more { first < stop }
+        ensures found { IsTrue result → IsFalse self.new.lost }
+        ensures lost { IsFalse result → IsTrue self.new.lost }
         ensures looked { IsFalse self.new.lost → LooksTo old.now new.now at first (stop - first) self.old self.new }
         ensures stays { ((k : ℕ) (mid : Tables) → first + k < stop → LooksTo old.now new.now at first k self.old mid → CanLook old.now new.now at (first + k) mid)
             → IsFalse self.new.lost }
@@ -215,15 +219,16 @@ impl Monitor {
             || field_index(Addr(original), stop) > old.len()
         {
             self.look_each(old, new, at, first, stop);
-            return;
+            return !self.lost;
         }
         let from = field_index(Addr(original), first);
         let place = field_index(Addr(at), first);
         let count = usize::from(stop - first);
         if self.are_alike(header, old, from, new, place, count) && self.settle(place, count) {
-            return;
+            return true;
         }
         self.look_each(old, new, at, first, stop);
+        !self.lost
     }
 
     // Whether so many words of both, from these places on, are fields that stand for each other, of objects with this header.

@@ -4,8 +4,8 @@ use Rattle.gc_monitor.specs.Claims.{CanLook}
 use Rattle.gc_monitor.specs.Internal.Runs.{LooksTo}
 use Rattle.gc_monitor.proofs.monitor.Monitor.look_rest.Goals as goal
 
-pub returns-then-len-gt0-clause-stays : goal.returns-then-len-gt0-clause-stays
-returns-then-len-gt0-clause-stays c = λ plain few can.
+pub returns-clause-stays : goal.returns-clause-stays
+returns-clause-stays c = λ plain few can.
     let none : c.args.first ≡ 0 = omega (arith, c.if-first-gt0.false) in
     c.look_fields.ensures.stays (λ k mid small looks.
     subst (λ n. CanLook c.args.old.now c.args.new.now c.args.at (n + k) mid) none

@@ -37,13 +37,16 @@ returns-then-is_raw c =
     let a = c.in-Some-claim_in.original in
     let at : c.len-at.result ≡ length c.self.inside.news.codes = c.len-at.ensures in
     let added = c.add_raw.ensures.added ∙ ap (λ (t : Tables). replica_added t h a (not c.add_raw.result)) (sym c.self.view_is) in
+    let found = ap (λ (t : Tables). t.lost) c.add_raw.ensures.added ∙ c.requires.found in
     record {
+      found = λ yes. found;
+      lost = λ no. absurd cc;
       placed = λ found.
           placed_at c.args.old.now c.args.new.now _ _ _ h a c.add_raw.result c.self.view_is (more k) (claim k)
           (λ t. subst (λ n. IsCopy c.args.old.now c.args.new.now h a n) at (c.add_raw.ensures.copy t)) added;
       copied = λ found. owes_none c.args.old.now c.args.new.now _ _ _ h a c.add_raw.result c.self.view_is (claim k)
           (λ copy fits. c.add_raw.ensures.whole (subst (λ n. IsCopy c.args.old.now c.args.new.now h a n) (sym at) copy) fits) added;
-      stays = λ can. ap (λ (t : Tables). t.lost) c.add_raw.ensures.added ∙ c.requires.found;
+      stays = λ can. found;
     }
 
 pub returns : goal.returns
@@ -52,10 +55,13 @@ returns c =
     let h = c.in-Some.header in
     let a = c.in-Some-claim_in.original in
     let added = c.add_replica.ensures ∙ ap (λ (t : Tables). replica_added t h a true) (sym c.self.view_is) in
+    let found = ap (λ (t : Tables). t.lost) c.add_replica.ensures ∙ c.requires.found in
     record {
+      found = λ yes. found;
+      lost = λ no. absurd cc;
       placed = λ found.
           placed_at c.args.old.now c.args.new.now _ _ _ h a false c.self.view_is (more k) (claim k) (λ e. absurd cc) added;
       copied = λ found. owes_none c.args.old.now c.args.new.now _ _ _ h a false c.self.view_is (claim k)
           (λ copy fits. sym c.if-is_raw.false ∙ c.is_raw.ensures ∙ copy.raw) added;
-      stays = λ can. ap (λ (t : Tables). t.lost) c.add_replica.ensures ∙ c.requires.found;
+      stays = λ can. found;
     }
