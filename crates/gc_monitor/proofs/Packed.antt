@@ -236,3 +236,15 @@ all_filled before now places same few filled others =
 
     at : (place : ℕ) → place < length before → get_or now place 0 ≡ get_or (take from before ++ replicate places 3) place 0
     at place within = grind (arith, common_steps, cases_lt, from, get_or_append_left, front, get_or-take, get_or-append_right, get_or-replicate)
+
+-- once the last places of an object that is added have code 3, all its fields have it
+pub object_filled : (before mid now : List ℕ) (fields : ℕ) → mid ≡ before ++ 1 ∷ replicate (suc fields) 0 → length now ≡ length mid
+    → ((place : ℕ) → length before + 2 ≤ place → place < length before + 2 + fields → get_or now place 0 ≡ 3)
+    → ((place : ℕ) → place < length before + 2 → get_or now place 0 ≡ get_or mid place 0) → now ≡ before ++ 1 ∷ 0 ∷ replicate fields 3
+object_filled before mid now fields mid_is same filled others =
+    all_filled mid now fields same (omega (arith, long)) (λ place low high. filled place (omega (arith, low, long)) (omega (arith, high, long))) (λ place low. others place (omega (arith, low, long)))
+    ∙ ap (λ xs. take (length mid - fields) xs ++ replicate fields 3) mid_is
+    ∙ fields_filled before fields 3 (length mid - fields) (omega (arith, long))
+  where
+    long : length mid ≡ length before + 2 + fields
+    long = ap (λ (xs : List ℕ). length xs) mid_is ∙ length-append before (1 ∷ replicate (suc fields) 0) ∙ (let e : length before + length {A = ℕ} (1 ∷ replicate (suc fields) 0) ≡ length before + 2 + fields = omega (arith, length-replicate {A = ℕ} fields 0) in e)

@@ -1,5 +1,6 @@
 //! A code for each place, two bits each.
 
+use crate::walking::START;
 use crate::zeros::{add_words, touch_words};
 use gc_graph::NoMemory;
 use std::alloc::Global;
@@ -39,7 +40,7 @@ impl Model for CodeRow {
 impl CodeRow {
     ghost use Rattle.std.specs.Prelude.{◌≡◌, ◌+◌, ◌<◌, ◌≤◌, ◌∷◌, ◌++◌, ◌-◌, [], IfOk, OnOk, IsTrue, length, replicate, take, slice_index, slice_index_or, slice_set, ◌⊎◌, ◌≢◌, ◌%◌, ◌/◌, ℕ, IsFalse};
     ghost use Rattle.gc_monitor.specs.Internal.InWords.{freed};
-    ghost use Rattle.gc_monitor.specs.Events.{code_of};
+    ghost use Rattle.gc_monitor.specs.Events.{code_of, object_codes};
     ghost use Rattle.gc_monitor.specs.Internal.Rows.{dues_from, row_set};
 
     /// Returns a row of place 0 alone, whose code is 0, with room for so many places. Allocates once.
@@ -169,6 +170,41 @@ impl CodeRow {
         let at = place / PER_WORD;
         self.words[at] = with_first(self.words[at], place % PER_WORD, code);
         self.len = len;
+    }
+
+    /// Adds the codes of an object with so many fields, all of which are due.
+    #[inline(always)]
+    pub(crate) fn add_due(&mut self, fields: u16)
+        requires room { length self.old.codes + (fields + 2) ≤ self.old.room }
+        ensures codes { self.new.codes ≡ self.old.codes ++ object_codes fields 3 }
+        ensures room { self.old.room ≤ self.new.room }
+    {
+        let count = usize::from(fields);
+        let place = self.len;
+        let first = place + 2;
+        if count == 0
+            || first % PER_WORD + count > PER_WORD
+            || first / PER_WORD >= self.words.len()
+        {
+            self.add_due_behind(fields);
+            return;
+        }
+        let at = place / PER_WORD;
+        self.words[at] = with_first(self.words[at], place % PER_WORD, START);
+        self.len = first + count;
+        self.set_in_word(first, count, true);
+    }
+
+    // The same where the fields lie in two words, or may need further ones.
+    #[inline(never)]
+    fn add_due_behind(&mut self, fields: u16)
+        requires room { length self.old.codes + (fields + 2) ≤ self.old.room }
+        ensures codes { self.new.codes ≡ self.old.codes ++ object_codes fields 3 }
+        ensures room { self.old.room ≤ self.new.room }
+    {
+        let count = usize::from(fields);
+        self.add(START, count + 1);
+        self.fill(count);
     }
 
     /// Gives the last so many places code 3.

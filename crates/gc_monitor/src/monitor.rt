@@ -57,17 +57,17 @@ impl Model for Monitor {
 }
 
 impl Monitor {
-    ghost use Rattle.std.specs.Prelude.{◌≡◌, ◌<◌, ◌≤◌, ◌==◌, ◌%◌, ◌^◌, ◌↔◌, ◌∷◌, ◌++◌, ◌+◌, ◌-◌, Some, [], ℕ, true, false, IsTrue, IsFalse, ◌⊎◌, IfOk, IfSome, OnOk, OnErr, MatchOption, length, slice_index, slice_index_or};
+    ghost use Rattle.std.specs.Prelude.{◌≡◌, ◌<◌, ◌≤◌, ◌==◌, ◌%◌, ◌^◌, ◌↔◌, ◌∷◌, ◌++◌, ◌+◌, ◌-◌, Some, [], ℕ, true, false, not, IsTrue, IsFalse, ◌⊎◌, IfOk, IfSome, OnOk, OnErr, MatchOption, length, slice_index, slice_index_or};
     ghost use Rattle.gc_graph.specs.Correspond.{paired};
     ghost use Rattle.gc_words.specs.Word.{words_correspond, field_words_correspond};
     ghost use Rattle.gc_words.specs.declared.header.Header.{Header};
-    ghost use Rattle.gc_words.specs.Layout.{link_place};
+    ghost use Rattle.gc_words.specs.Layout.{fields_place, link_place};
     ghost use Rattle.gc_monitor.specs.Origins.{pairs_in};
     ghost use Rattle.gc_monitor.specs.Outline.{outline_in};
     ghost use Rattle.gc_monitor.specs.Watch.{RootsCorrespond};
     ghost use Rattle.gc_monitor.specs.Tables.{RowsAgree};
     ghost use Rattle.gc_monitor.specs.Telling.{IsMark};
-    ghost use Rattle.gc_monitor.specs.Events.{Made, Placed, Wrote, WroteRow, Applied, Freed, HasNoReplica, object_codes, absent_tables, opening_tables, flipped_tables, replica_added, with_due};
+    ghost use Rattle.gc_monitor.specs.Events.{Made, Placed, Wrote, WroteRow, Applied, Freed, HasNoReplica, IsCopy, object_codes, absent_tables, opening_tables, flipped_tables, replica_added, with_due};
     ghost use Rattle.gc_monitor.specs.Internal.Rows.{with_due_row};
     ghost use Rattle.gc_monitor.specs.Runs.{PlacedAll, CanPlaceAll};
     ghost use Rattle.gc_graph.specs.Graph.{Ref};
@@ -199,10 +199,11 @@ impl Monitor {
         if self.news.len() >= new.len() {
             return;
         }
-        self.place_next(old, new);
+        let _ = self.place_next(old, new);
     }
 
     /// The walk over the new space goes on to its end, replica by replica, each of which is that of the object that its link claims.
+    #[inline(never)]
     pub fn placed_all(&mut self, old: &[u64], new: &[u64])
         ensures lost { IsTrue self.old.lost → IsTrue self.new.lost }
         ensures placed { IsFalse self.new.lost → PlacedAll old.now new.now self.old self.new }
@@ -212,18 +213,19 @@ impl Monitor {
             return;
         }
         while self.news.len() < new.len() {
-            self.place_next(old, new);
-            if self.lost {
+            if !self.place_next(old, new) {
                 return;
             }
         }
     }
 
-    // The walk over the new space goes on by the next object.
+    // The walk over the new space goes on by the next object. Returns whether nothing is lost.
     #[inline(always)]
-    fn place_next(&mut self, old: &[u64], new: &[u64])
+    fn place_next(&mut self, old: &[u64], new: &[u64]) -> bool
         requires found { IsFalse self.old.lost }
         requires more { length self.old.news < length new.now }
+        ensures found { IsTrue result → IsFalse self.new.lost }
+        ensures lost { IsFalse result → IsTrue self.new.lost }
         ensures placed { IsFalse self.new.lost → Placed old.now new.now self.old self.new }
         ensures copied { IsFalse self.new.lost → OwesNone old.now new.now self.old self.new }
         ensures stays { CanPlaceNext old.now new.now self.old → IsFalse self.new.lost }
@@ -231,14 +233,42 @@ impl Monitor {
         let at = self.news.len();
         let Some(header) = next_header(new, at, self.room) else {
             self.lost = true;
-            return;
+            return false;
         };
         let Some(original) = claim_in(old, new, &self.olds, at) else {
             self.lost = true;
-            return;
+            return false;
         };
-        let due = !is_copy(header, old, new, original, at);
-        self.add_replica(header, original, due);
+        if header.is_raw() {
+            let _ = self.add_raw(old, new, header, original, at);
+            return true;
+        }
+        self.add_replica(header, original, true);
+        true
+    }
+
+    // The tables have a raw replica more, which starts at `at`. Returns whether it is a copy of its original, whose fields are not due.
+    #[inline(never)]
+    fn add_raw(
+        &mut self,
+        old: &[u64],
+        new: &[u64],
+        header: Header,
+        original: u32,
+        at: usize,
+    ) -> bool
+        requires found { IsFalse self.old.lost }
+        requires original { slice_index_or self.old.olds original 0 ≡ 1 }
+        requires low { 1 ≤ original }
+        requires room { length self.old.news + (header.len + 2) ≤ self.old.room }
+        requires within { at + (header.len + 2) ≤ length new.now }
+        ensures added { self.new ≡ replica_added self.old header original (not result) }
+        ensures copy { IsTrue result → IsCopy old.now new.now header original at }
+        ensures whole { IsCopy old.now new.now header original at → fields_place original + header.len ≤ length old.now → IsTrue result }
+    {
+        let copied = is_copy(header, old, new, original, at);
+        self.add_replica(header, original, !copied);
+        copied
     }
 
     // The tables have a replica with this header more, whose fields are due or not.
@@ -417,6 +447,9 @@ impl Monitor {
         requires within { place < length self.old.news }
         ensures { self.new ≡ with_due self.old place due }
     {
+        if self.news.get(place) == code_of(due) {
+            return;
+        }
         let was = self.news.replace(place, code_of(due)) == DUE;
         self.missing = recounted(self.missing, was, due);
     }
@@ -439,13 +472,12 @@ impl Monitor {
     fn is_correspondence(&self, old: u64, new: u64) -> bool
         ensures { result ≡ words_correspond (pairs_in self.now.origins) old new }
     {
-        if is_plain(old) {
-            return old == new;
-        }
         if let Some(address) = reference_in(old) {
             if self.refers_to_replica(new, address) {
                 return true;
             }
+        } else if is_plain(old) {
+            return old == new;
         }
         self.is_other_correspondence(old, new)
     }
@@ -457,10 +489,10 @@ impl Monitor {
         ensures { IsTrue result → (b : ℕ) × (read_value word ≡ Some (Ref b)) × IsTrue (paired (pairs_in self.now.origins) original.0 b) }
     {
         origins_tell_pairs();
-        if word == 0 || word % 2 == 1 {
+        if word == 0 {
             return false;
         }
-        self.origins.get((word / 2) as usize) == original.0
+        self.origins.get(half_of(word) as usize) == original.0
     }
 
     // Decodes both words, whatever they are, and returns whether they stand for each other.
@@ -603,7 +635,7 @@ impl Watcher for Monitor {
     }
 }
 
-ghost use Rattle.std.specs.Prelude.{◌≡◌, ◌⊎◌, ◌↔◌, ◌==◌, ◌≤◌, ◌+◌, ℕ, List, true, IsTrue, IfSome, Some, if◌then◌else◌, length, slice_index_or};
+ghost use Rattle.std.specs.Prelude.{◌≡◌, ◌⊎◌, ◌↔◌, ◌==◌, ◌≤◌, ◌+◌, ◌*◌, ◌/◌, ◌%◌, ◌^◌, ℕ, List, true, IsTrue, IfSome, Some, if◌then◌else◌, length, slice_index_or};
 ghost use Rattle.gc_graph.specs.Graph.{Ref};
 ghost use Rattle.gc_words.specs.Word.{read_value, words_correspond};
 ghost use Rattle.gc_monitor.specs.Outline.{outline_in};
@@ -624,10 +656,19 @@ fn is_plain(word: u64) -> bool
 fn reference_in(word: u64) -> Option<Addr>
     ensures { IfSome result (λ a. (read_value word ≡ Some (Ref a.0)) × (1 ≤ a.0)) }
 {
-    if word == 0 || word % 2 == 1 || word >= 2 * u64::from(u32::MAX) {
+    let half = half_of(word);
+    if half == 0 || half >= u64::from(u32::MAX) {
         return None;
     }
-    Some(Addr((word / 2) as u32))
+    Some(Addr(half as u32))
+}
+
+// Half the word if it is even, and otherwise a number that is no address. Takes fewer instructions than a test of the lowest bit.
+#[inline(always)]
+fn half_of(word: u64) -> u64
+    ensures { result ≡ word / 2 + word % 2 * 2 ^ 63 }
+{
+    word / 2 + word % 2 * (1 << 63)
 }
 
 // Whether the numbers of an image fit the number of its words.

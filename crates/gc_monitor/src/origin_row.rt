@@ -125,7 +125,9 @@ impl OriginRow {
         if place >= self.len {
             return 0;
         }
-        if !is_marked(self.starts.as_slice(), place) {
+        // Fewer instructions find the word of a place with 32 bits.
+        let at = place as u32;
+        if !is_marked(self.starts.as_slice(), at as usize) {
             return 0;
         }
         self.originals[place / 2]
@@ -139,8 +141,8 @@ impl OriginRow {
         ensures room { self.old.room ≤ self.new.room }
     {
         let at = self.len;
-        let len = at + usize::from(fields) + 2;
-        grow(&mut self.starts, &mut self.originals, words_of(len));
+        let len = at + (usize::from(fields) + 2);
+        grow(&mut self.starts, &mut self.originals, len);
         mark(self.starts.as_mut_slice(), at);
         self.originals[at / 2] = original;
         self.len = len;
@@ -158,20 +160,24 @@ fn words_of(places: usize) -> usize
     (places + 63) / PER_WORD
 }
 
-// Adds zeros up to so many words of bits, and the originals for them.
+// Adds zeros up to the words for so many places, and the originals for them.
 #[inline(always)]
-fn grow(starts: &mut Vec<u64>, originals: &mut Vec<u32>, words: usize)
-    requires words { vec_len starts.old ≤ words }
+fn grow(starts: &mut Vec<u64>, originals: &mut Vec<u32>, places: usize)
+    requires few { places ≤ 4294967295 }
+    requires words { vec_len starts.old ≤ (places + 63) / 64 }
     requires halves { vec_len originals.old ≡ 32 * vec_len starts.old }
-    requires room { words ≤ vec_capacity starts.old }
-    requires room_for_halves { 32 * words ≤ vec_capacity originals.old }
-    ensures starts { starts.new.items ≡ starts.old.items ++ replicate (words - vec_len starts.old) 0 }
-    ensures originals { originals.new.items ≡ originals.old.items ++ replicate (32 * words - vec_len originals.old) 0 }
+    requires room { (places + 63) / 64 ≤ vec_capacity starts.old }
+    requires room_for_halves { 32 * ((places + 63) / 64) ≤ vec_capacity originals.old }
+    ensures starts { starts.new.items ≡ starts.old.items ++ replicate ((places + 63) / 64 - vec_len starts.old) 0 }
+    ensures originals { originals.new.items ≡ originals.old.items ++ replicate (32 * ((places + 63) / 64) - vec_len originals.old) 0 }
     ensures starts_capacity { vec_capacity starts.old ≤ vec_capacity starts.new }
     ensures originals_capacity { vec_capacity originals.old ≤ vec_capacity originals.new }
 {
-    if starts.len() < words {
-        add_words(starts, words);
-        add_addresses(originals, HALVES * words);
+    // Most often there are more words than the last of these places needs, which is told by fewer instructions.
+    if places / PER_WORD < starts.len() {
+        return;
     }
+    let words = words_of(places);
+    add_words(starts, words);
+    add_addresses(originals, HALVES * words);
 }

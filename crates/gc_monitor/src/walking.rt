@@ -28,7 +28,18 @@ pub(crate) fn header_at(words: &[u64], at: u32) -> Option<Header>
     if at >= words.len() {
         return None;
     }
-    Header::read(words[at])
+    read_word(words[at])
+}
+
+/// Decodes a header word, as `Header::read` does. The length is the same for both kinds of headers, so it is decoded after the test.
+#[inline(always)]
+pub(crate) fn read_word(word: u64) -> Option<Header>
+    ensures { result ≡ read_header word }
+{
+    if Header::read(word).is_none() {
+        return None;
+    }
+    Some(Header::of_word(word))
 }
 
 /// Returns the header of the next object of a walk, if there is one.
@@ -38,12 +49,7 @@ pub(crate) fn next_within(words: &[u64], at: usize) -> Option<Header>
     ensures { MatchOption result ((h : Header) → IsNext at words.now h → ⊥)
         (λ h. (read_header (slice_index words.now at) ≡ Some h) × (at + (h.len + 2) ≤ length words.now)) }
 {
-    let word = words[at];
-    // The length is the same for both kinds of headers, so it is decoded after this test.
-    if Header::read(word).is_none() {
-        return None;
-    }
-    let header = Header::of_word(word);
+    let header = read_word(words[at])?;
     if usize::from(header.len()) + 2 > words.len() - at {
         return None;
     }
@@ -139,9 +145,10 @@ pub(crate) fn add_codes(row: &mut CodeRow, len: u16, due: bool)
     ensures codes { row.new.codes ≡ row.old.codes ++ object_codes len (code_of due) }
     ensures room { row.old.room ≤ row.new.room }
 {
-    row.add(START, usize::from(len) + 1);
     if due {
-        row.fill(usize::from(len));
+        row.add_due(len);
+    } else {
+        row.add(START, usize::from(len) + 1);
     }
 }
 

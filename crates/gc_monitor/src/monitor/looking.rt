@@ -1,6 +1,6 @@
 //! Fields of replicas, compared with those of their originals as they are now.
 use super::Monitor;
-use crate::walking::header_at;
+use crate::walking::{header_at, read_word};
 use gc_words::{Addr, Header, field_index};
 
 /// A field of a replica: the header and the original of the replica, and the place of the field in the new space.
@@ -36,7 +36,8 @@ impl Monitor {
         }
         match self.compared(old, new, at, i) {
             None => self.lose(),
-            Some(alike) => self.set_due(field_index(Addr(at), i), !alike),
+            Some(true) => self.set_due(field_index(Addr(at), i), false),
+            Some(false) => self.set_due(field_index(Addr(at), i), true),
         }
     }
 
@@ -73,7 +74,7 @@ impl Monitor {
         if original == 0 {
             return None;
         }
-        let header = Header::read(word)?;
+        let header = read_word(word)?;
         if i >= header.len() {
             return None;
         }
@@ -89,6 +90,7 @@ impl Monitor {
     }
 
     /// Compares the fields from field `i` of the replica at `at` on, up to field `end` of the replica at `to`, as they are now.
+    #[inline(never)]
     pub fn look_all(&mut self, old: &[u64], new: &[u64], at: u32, i: u16, to: u32, end: u16)
         ensures lost { IsTrue self.old.lost → IsTrue self.new.lost }
         ensures looked { IsFalse self.new.lost → LookedAll old.now new.now at i to end self.old self.new }
@@ -104,8 +106,7 @@ impl Monitor {
                 self.lost = true;
                 return;
             };
-            self.look_rest(old, new, header, place, field);
-            if self.lost {
+            if !self.look_rest(old, new, header, place, field) {
                 return;
             }
             if u32::from(header.len()) + 2 > to - place {
@@ -124,25 +125,47 @@ impl Monitor {
         }
     }
 
-    // Compares the fields from `first` on of the replica at `at`, which has this header, unless it is raw.
+    // Compares the fields from `first` on of the replica at `at`, which has this header, unless it is raw. Returns whether nothing is lost.
     #[inline(always)]
-    fn look_rest(&mut self, old: &[u64], new: &[u64], header: Header, at: u32, first: u16)
+    fn look_rest(&mut self, old: &[u64], new: &[u64], header: Header, at: u32, first: u16) -> bool
         requires found { IsFalse self.old.lost }
+        requires within { at < length new.now }
         requires header { read_header (slice_index new.now at) ≡ Some header }
+        ensures found { IsTrue result → IsFalse self.new.lost }
+        ensures lost { IsFalse result → IsTrue self.new.lost }
         ensures raw { IsTrue header.raw → self.new ≡ self.old }
         ensures looked { IsFalse header.raw → IsFalse self.new.lost → (first ≤ header.len) × LooksTo old.now new.now at first (header.len - first) self.old self.new }
         ensures stays { IsFalse header.raw → first ≤ header.len
             → ((k : ℕ) (mid : Tables) → first + k < header.len → LooksTo old.now new.now at first k self.old mid → CanLook old.now new.now at (first + k) mid)
             → IsFalse self.new.lost }
     {
-        if header.is_raw() || first == header.len() {
-            return;
+        if header.is_raw() {
+            return true;
         }
-        if first > header.len() {
+        if first > 0 {
+            self.look_behind(old, new, at, first, header.len());
+            return !self.lost;
+        }
+        if header.len() == 0 {
+            return true;
+        }
+        self.look_fields(old, new, header, at, 0, header.len())
+    }
+
+    // Compares the fields from `first` on, and before `stop`, of the replica at `at`, which may not be raw, if there are such fields.
+    #[inline(never)]
+    fn look_behind(&mut self, old: &[u64], new: &[u64], at: u32, first: u16, stop: u16)
+        requires found { IsFalse self.old.lost }
+        ensures looked { IsFalse self.new.lost → (first ≤ stop) × LooksTo old.now new.now at first (stop - first) self.old self.new }
+        ensures stays { (h : Header) → at < length new.now → read_header (slice_index new.now at) ≡ Some h → IsFalse h.raw → first ≤ stop
+            → ((k : ℕ) (mid : Tables) → first + k < stop → LooksTo old.now new.now at first k self.old mid → CanLook old.now new.now at (first + k) mid)
+            → IsFalse self.new.lost }
+    {
+        if first > stop {
             self.lost = true;
-            return;
+        } else if first < stop {
+            self.look_last(old, new, at, first, stop);
         }
-        self.look_fields(old, new, header, at, first, header.len());
     }
 
     // Compares the fields from `first` on, and before `stop`, of the replica at `at`, which may not be raw.
@@ -164,10 +187,10 @@ impl Monitor {
             self.lost = true;
             return;
         }
-        self.look_fields(old, new, header, at, first, stop);
+        let _ = self.look_fields(old, new, header, at, first, stop);
     }
 
-    // Compares the fields from `first` on, and before `stop`, of the replica at `at`, which has this header.
+    // Compares the fields from `first` on, and before `stop`, of the replica at `at`, which has this header. Returns whether nothing is lost.
     #[inline(always)]
     fn look_fields(
         &mut self,
@@ -177,10 +200,12 @@ impl Monitor {
         at: u32,
         first: u16,
         stop: u16,
-    )
+    ) -> bool
         requires found { IsFalse self.old.lost }
         requires header { read_header (slice_index new.now at) ≡ Some header }
         requires more { first < stop }
+        ensures found { IsTrue result → IsFalse self.new.lost }
+        ensures lost { IsFalse result → IsTrue self.new.lost }
         ensures looked { IsFalse self.new.lost → LooksTo old.now new.now at first (stop - first) self.old self.new }
         ensures stays { ((k : ℕ) (mid : Tables) → first + k < stop → LooksTo old.now new.now at first k self.old mid → CanLook old.now new.now at (first + k) mid)
             → IsFalse self.new.lost }
@@ -194,15 +219,16 @@ impl Monitor {
             || field_index(Addr(original), stop) > old.len()
         {
             self.look_each(old, new, at, first, stop);
-            return;
+            return !self.lost;
         }
         let from = field_index(Addr(original), first);
         let place = field_index(Addr(at), first);
         let count = usize::from(stop - first);
         if self.are_alike(header, old, from, new, place, count) && self.settle(place, count) {
-            return;
+            return true;
         }
         self.look_each(old, new, at, first, stop);
+        !self.lost
     }
 
     // Whether so many words of both, from these places on, are fields that stand for each other, of objects with this header.

@@ -7,8 +7,8 @@ use Rattle.gc_monitor.specs.Runs.{LookRun}
 use Rattle.gc_monitor.proofs.Runs.{looks_join, rest_run}
 use Rattle.gc_monitor.proofs.monitor.Monitor.look_all.Goals as goal
 
-pub returns-then-self-2-clause-stays : goal.returns-then-self-2-clause-stays
-returns-then-self-2-clause-stays c first can =
+pub returns-then-not-look_rest-clause-stays : goal.returns-then-not-look_rest-clause-stays
+returns-then-not-look_rest-clause-stays c first can =
     let h = c.in-Some.header in
     let place = c.loop-place.place in
     let field = c.loop-place.field in
@@ -36,7 +36,7 @@ pub returns-then-from-to-clause-stays : goal.returns-then-from-to-clause-stays
 returns-then-from-to-clause-stays c first can =
     let h = c.in-Some.header in
     let less = c.loop-place-test.true in
-    let found : IsFalse c.look_rest.new.self.lost = sym (ap (λ (t : Tables). t.lost) c.self-in-loop-place-2.view_is) ∙ c.if-self-2.false in
+    let found : IsFalse c.look_rest.new.self.lost = c.look_rest.ensures.found c.if-not-look_rest.false in
     let run = c.loop-place.invariant.1 in
     let rest = rest_run c.args.old.now c.args.new.now c.args.to c.args.end run.0 c.args.at c.args.i c.args.self.now c.loop-place.place c.loop-place.field c.loop-place.self h run.1 c.in-Some.ensures.1 less
     c.look_rest.new.self c.look_rest.ensures.raw (λ plain. c.look_rest.ensures.looked plain found) in
@@ -49,7 +49,7 @@ pub loop-place-preserved : goal.loop-place-preserved
 loop-place-preserved c =
     let h = c.in-Some.header in
     let less = c.loop-place-test.true in
-    let found : IsFalse c.look_rest.new.self.lost = sym (ap (λ (t : Tables). t.lost) c.self-in-loop-place-2.view_is) ∙ c.if-self-2.false in
+    let found : IsFalse c.look_rest.new.self.lost = c.look_rest.ensures.found c.if-not-look_rest.false in
     let run = c.loop-place.invariant.1 in
     let rest = rest_run c.args.old.now c.args.new.now c.args.to c.args.end run.0 c.args.at c.args.i c.args.self.now c.loop-place.place c.loop-place.field c.loop-place.self h run.1 c.in-Some.ensures.1 less
     c.look_rest.new.self c.look_rest.ensures.raw (λ plain. c.look_rest.ensures.looked plain found) in

@@ -31,3 +31,6 @@ returns-then-settle-clause-looked c = λ found.
 
 pub returns-then-settle-clause-stays : goal.returns-then-settle-clause-stays
 returns-then-settle-clause-stays c = λ can. ap (λ (t : Tables). t.lost) (c.settle.ensures.settled c.if-settle.true) ∙ (row_lost false c.from-count.result c.field_index-place.result c.args.self.now ∙ c.requires.found)
+
+pub returns-then-settle-clause-found : goal.returns-then-settle-clause-found
+returns-then-settle-clause-found c = λ yes. ap (λ (t : Tables). t.lost) (c.settle.ensures.settled c.if-settle.true) ∙ (row_lost false c.from-count.result c.field_index-place.result c.args.self.now ∙ c.requires.found)

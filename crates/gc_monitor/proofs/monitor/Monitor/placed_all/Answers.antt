@@ -1,12 +1,11 @@
 -- A turn makes the walk one replica longer, or loses the checker.
-use Rattle.std.proofs.Common.{suc, IsFalse, ap, sym, ◌∙◌}
-use Rattle.gc_monitor.specs.Tables.{Tables}
+use Rattle.std.proofs.Common.{suc, IsFalse}
 use Rattle.gc_monitor.proofs.Runs.{longer_placed}
 use Rattle.gc_monitor.proofs.monitor.Monitor.placed_all.Goals as goal
 
 pub loop-self-preserved : goal.loop-self-preserved
 loop-self-preserved c =
-    let found : IsFalse c.place_next.new.self.lost = sym (ap (λ (t : Tables). t.lost) c.self-in-loop-self-2.view_is) ∙ c.if-self-2.false in
+    let found : IsFalse c.place_next.new.self.lost = c.place_next.ensures.found c.if-not-place_next.false in
     let run = c.loop-self.invariant.1 in (
       found,
       (
