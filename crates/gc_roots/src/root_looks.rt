@@ -78,17 +78,30 @@ impl RootLooks {
         ensures compared { words_correspond (pairs_in standing.now.origins) word twin ≡ true → k ≤ self.old.front → k < self.old.room → IsCompared self.old self.new k }
         ensures others { ComparesOnly self.old self.new k }
     {
+        if k as usize != self.front {
+            self.look_again(standing, k, word, twin);
+        } else if self.front < self.room && standing.roots_are_alike(word, twin) {
+            self.due.unmark(self.front);
+            self.front += 1;
+        }
+    }
+
+    /// Compares an extra root with its twin again. Extra root `k` is not the first one that was not compared.
+    #[inline(never)]
+    fn look_again(&mut self, standing: &Monitor, k: u32, word: u64, twin: u64)
+        ensures looked { (slots : ℕ) (olds news : List ℕ) → slots + k < length news → slice_index olds (slots + k) ≡ word
+            → HasLooked (pairs_in standing.now.origins) slots olds news self.old
+            → HasLooked (pairs_in standing.now.origins) slots olds (slice_set news (slots + k) twin) self.new }
+        ensures compared { words_correspond (pairs_in standing.now.origins) word twin ≡ true → k < self.old.front → IsCompared self.old self.new k }
+        ensures others { ComparesOnly self.old self.new k }
+    {
         let k = k as usize;
-        let alike = standing.roots_are_alike(word, twin);
         if k < self.front {
-            if alike {
+            if standing.roots_are_alike(word, twin) {
                 self.due.unmark(k);
             } else {
                 self.due.mark(k);
             }
-        } else if k == self.front && k < self.room && alike {
-            self.due.unmark(k);
-            self.front = k + 1;
         }
     }
 
