@@ -48,6 +48,7 @@ record HasGrown (starts originals marked : List ℕ) (len n m fields : ℕ) : Ty
   pub words : length starts + n ≡ (len + (fields + 2) + 63) / 64
   pub halves : length originals + m ≡ 32 * (length starts + n)
   pub long : length marked ≡ length starts + n
+  pub some : 1 ≤ len
   pub here : is_marked marked len ≡ true
   pub beside : (place : ℕ) → place ≢ len → is_marked marked place ≡ is_marked starts place
 
@@ -59,6 +60,7 @@ has_more : (starts originals marked : List ℕ) (len n m fields original : ℕ) 
 has_more starts originals marked len n m fields original g = record {
   bits = g.long ∙ g.words;
   halves = length-set (originals ++ replicate m 0) (len / 2) original ∙ length-append originals (replicate m 0) ∙ ap (λ k. length originals + k) (length-replicate {A = ℕ} m 0) ∙ g.halves ∙ ap (λ k. 32 * k) (sym g.long);
+  first = g.beside 0 (λ e. (let some : 1 ≤ len = g.some in omega arith)) ∙ g.has.first;
   rest = λ place past. g.beside place (λ e. omega arith) ∙ g.has.rest place (omega arith);
 }
 
@@ -166,17 +168,18 @@ pub record IsAdded (starts originals starts' originals' : List ℕ) (len len' fi
   pub has : HasOrigins starts' originals' len'
   pub origins : origins_in starts' originals' len' ≡ origins_in starts originals len ++ original ∷ 0 ∷ replicate fields 0
 
-pub added : (starts originals more_starts more_originals marked kept : List ℕ) (len len' words starts_len originals_len fields original : ℕ) → HasOrigins starts originals len → starts_len ≡ length starts → originals_len ≡ length originals
+pub added : (starts originals more_starts more_originals marked kept : List ℕ) (len len' words starts_len originals_len fields original : ℕ) → HasOrigins starts originals len → 1 ≤ len → starts_len ≡ length starts → originals_len ≡ length originals
     → more_starts ≡ starts ++ replicate (words - starts_len) 0 → more_originals ≡ originals ++ replicate (32 * words - originals_len) 0 → len' ≡ len + (fields + 2) → words ≡ (len' + 63) / 64
     → length marked ≡ length more_starts → is_marked marked len ≡ true → ((other : ℕ) → other ≢ len → is_marked marked other ≡ is_marked more_starts other) → kept ≡ marked
     → IsAdded starts originals kept (set more_originals (len / 2) original) len len' fields original
-added starts originals more_starts more_originals marked kept len len' words starts_len originals_len fields original has starts_has originals_has starts_are originals_are len_is words_are long here beside same =
+added starts originals more_starts more_originals marked kept len len' words starts_len originals_len fields original has some starts_has originals_has starts_are originals_are len_is words_are long here beside same =
     let n = words - starts_len in
     let m = 32 * words - originals_len in
     let g : HasGrown starts originals marked len n m fields = record {
       has = has;
       words = omega (arith, has.bits);
       halves = omega (arith, has.bits, has.halves);
+      some = some;
       long = long ∙ ap (λ (row : List ℕ). length row) starts_are ∙ length-append starts (replicate n 0) ∙ ap (λ k. length starts + k) (length-replicate {A = ℕ} n 0);
       here = here;
       beside = λ place other. beside place other ∙ ap (λ row. is_marked row place) starts_are ∙ more_marks starts n place;

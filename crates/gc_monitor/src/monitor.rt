@@ -489,9 +489,6 @@ impl Monitor {
         ensures { IsTrue result → (b : ℕ) × (read_value word ≡ Some (Ref b)) × IsTrue (paired (pairs_in self.now.origins) original.0 b) }
     {
         origins_tell_pairs();
-        if word == 0 {
-            return false;
-        }
         self.origins.get(half_of(word) as usize) == original.0
     }
 

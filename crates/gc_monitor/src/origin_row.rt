@@ -24,7 +24,7 @@ pub(crate) struct OriginRow {
 }
 
 impl Model for OriginRow {
-    ghost use Rattle.std.specs.Prelude.{◌≤◌, vec_capacity};
+    ghost use Rattle.std.specs.Prelude.{◌≡◌, ◌⊎◌, ◌≤◌, vec_capacity};
     ghost use Rattle.gc_monitor.specs.Internal.InWords.{Origins, HasOrigins, origins_in, room_for};
 
     ghost Value = { Origins };
@@ -35,7 +35,8 @@ impl Model for OriginRow {
     } };
 
     ghost invariant = { λ row. HasOrigins row.starts.items row.originals.items row.len
-        × (row.len ≤ room_for (vec_capacity row.starts) (vec_capacity row.originals)) };
+        × (row.len ≤ room_for (vec_capacity row.starts) (vec_capacity row.originals))
+        × ((1 ≤ row.len) ⊎ (room_for (vec_capacity row.starts) (vec_capacity row.originals) ≡ 0)) };
 }
 
 impl OriginRow {
@@ -71,6 +72,7 @@ impl OriginRow {
 
     /// Makes room for so many places. If memory is refused, the originals stay as they are.
     pub(crate) fn reserve(&mut self, places: u32) -> Result<(), NoMemory>
+        requires { 1 ≤ self.old.room }
         ensures origins { self.new.origins ≡ self.old.origins }
         ensures room { self.old.room ≤ self.new.room }
         ensures reserved { OnOk result (places ≤ self.new.room) }
@@ -91,6 +93,9 @@ impl OriginRow {
         ensures origins { self.new.origins ≡ self.old.origins }
         ensures room { self.old.room ≤ self.new.room }
     {
+        if self.len == 0 {
+            return;
+        }
         touch_words(&mut self.starts);
         touch_addresses(&mut self.originals);
     }
@@ -120,7 +125,7 @@ impl OriginRow {
     #[inline(always)]
     pub(crate) fn get(&self, place: usize) -> u32
         ensures origin { result ≡ slice_index_or self.now.origins place 0 }
-        ensures place { 1 ≤ result → place < 4294967295 }
+        ensures place { 1 ≤ result → (1 ≤ place) × (place < 4294967295) }
     {
         if place >= self.len {
             return 0;
@@ -173,7 +178,7 @@ fn grow(starts: &mut Vec<u64>, originals: &mut Vec<u32>, places: usize)
     ensures starts_capacity { vec_capacity starts.old ≤ vec_capacity starts.new }
     ensures originals_capacity { vec_capacity originals.old ≤ vec_capacity originals.new }
 {
-    // Most often there are more words than the last of these places needs, which is told by fewer instructions.
+    // Mostly the words are there. This test takes fewer instructions than `words_of`.
     if places / PER_WORD < starts.len() {
         return;
     }

@@ -73,8 +73,9 @@ origins_in starts originals len = map (origin_at starts originals) (range_with_l
 abbrev pub room_for : ℕ → ℕ → ℕ
 room_for words originals = min (64 * min words (originals / 32)) largest_space
 
--- there are as many words of marks as the places take, with originals for all their bits, and no replica starts at the last place or behind it
+-- there are as many words of marks as the places take, with originals for all their bits, and no replica starts at place 0, at the last place or behind it
 pub record HasOrigins (starts originals : List ℕ) (len : ℕ) : Type 0 where
   pub bits : length starts ≡ (len + 63) / 64
   pub halves : length originals ≡ 32 * length starts
+  pub first : is_marked starts 0 ≡ false
   pub rest : (place : ℕ) → len ≤ place + 1 → is_marked starts place ≡ false

@@ -1,5 +1,5 @@
 -- The bit and the entry of the last place are those of the replica, and no other place has another original.
-use Rattle.std.proofs.Common.{◌≡◌, length, ◌+◌, ◌/◌, set, ◌∷◌, ◌++◌, replicate, refl, ◌∙◌, ap, arith}
+use Rattle.std.proofs.Common.{◌≡◌, ◌≤◌, inl, inr, length, ◌+◌, ◌/◌, set, ◌∷◌, ◌++◌, replicate, refl, ◌∙◌, ap, arith}
 use Rattle.std.specs.Vec.{with_items}
 use Rattle.std.proofs.lemmas.List.{with_items_is}
 use Rattle.gc_monitor.specs.Internal.InWords.{Origins}
@@ -19,17 +19,25 @@ grow-requires c =
       room_for_halves = omega (arith, c.from.ensures);
     }
 
+-- where there is room there is place 0
+some : (c : After-index_mut) → 1 ≤ c.self.inside.len
+some c = elim c.self.invariant.2 [
+  | inl low ↦ low
+  | inr none ↦ absurd (omega (arith, none, seen_fits _ _ _ _ _ _ c.self.view_is c.requires))
+]
+
 row : (c : After-index_mut) → IsAdded c.self.inside.starts.items c.self.inside.originals.items (with_items c.grow.new.starts c.mark.new.bits).items (set c.grow.new.originals.items (c.self.inside.len / 2) c.args.original)
     c.self.inside.len (c.self.inside.len + (c.from.result + 2)) c.args.fields c.args.original
 row c =
     let long : length c.mark.new.bits ≡ c.grow.new.starts.len = omega (arith, c.mark.ensures.len, c.as_mut_slice.ensures.len, c.grow.new.starts.ok.0) in
-    added _ _ _ _ _ _ _ _ _ _ _ c.args.fields c.args.original c.self.invariant.0 c.self.inside.starts.ok.0 c.self.inside.originals.ok.0 (c.as_mut_slice.ensures.value ∙ c.grow.ensures.starts) c.grow.ensures.originals (omega (arith, c.from.ensures)) refl
+    added _ _ _ _ _ _ _ _ _ _ _ c.args.fields c.args.original c.self.invariant.0 (some c) c.self.inside.starts.ok.0 c.self.inside.originals.ok.0 (c.as_mut_slice.ensures.value ∙ c.grow.ensures.starts) c.grow.ensures.originals (omega (arith, c.from.ensures)) refl
     c.mark.ensures.len c.mark.ensures.marked c.mark.ensures.others (with_items_is c.grow.new.starts c.mark.new.bits long)
 
 pub invariant_of-self : goal.invariant_of-self
 invariant_of-self c = (
   (row (goal.at.invariant_of-self c).After-index_mut).has,
   omega (arith, seen_fits _ _ _ _ _ _ c.self.view_is c.requires, c.from.ensures, c.grow.ensures.starts_capacity, c.grow.ensures.originals_capacity),
+  inl (omega arith),
 )
 
 pub returns-clause-origins : goal.returns-clause-origins
