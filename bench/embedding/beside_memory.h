@@ -178,7 +178,9 @@ static void open_memory(void)
     /* Lets glibc keep freed blocks, as for the other heaps. */
     mallopt(M_MMAP_THRESHOLD, 64 << 20);
     mallopt(M_TRIM_THRESHOLD, 128 << 20);
+    /* Both spaces have their memory already, so a collection that begins late takes no more. */
     gcflip_pace pace = gcflip_pace_default();
+    pace.least = UINT32_MAX;
     expect(gcflip_thread_open(&thread, (uint32_t)(options.megabytes * WORDS_OF_MEGABYTE), STACK + options.deep, &pace), GCFLIP_DONE, "open");
     mutator = gcflip_thread_mutator(thread);
 }

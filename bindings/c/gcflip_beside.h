@@ -143,7 +143,7 @@ uint32_t gcflip_beside_work(gcflip_collector *collector, uint32_t most);
 uint32_t gcflip_beside_ask(gcflip_collector *collector);
 
 /* Takes the mutator with its log: GCFLIP_DONE if the collector holds it. GCFLIP_NOT_YET if the mutator has not been asked or has not stopped, or if
- * steps are left. */
+ * entries of an earlier log are left. Work applies them before it scans on. Replicas may be left to scan. */
 uint32_t gcflip_beside_take(gcflip_collector *collector);
 
 /* Asks no longer, and lets a mutator that has stopped go on in the same space: GCFLIP_DONE. The collection stays open, and no work is lost. */

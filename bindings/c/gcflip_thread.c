@@ -1,56 +1,93 @@
 /* A collector's thread for a heap of gcflip_beside.h. This file is not proved, unlike the calls that it makes. Tests run it.
  *
  * Each handle is used by its own thread alone. The lock guards the words in between: what is due, whether the mutator has stopped, and what was
- * done. The thread sleeps on `called` while nothing is due, and a mutator that has stopped or waits for steps sleeps on `let_go`. Nothing spins. */
-#define _POSIX_C_SOURCE 200809L
+ * done. The thread sleeps on `called` while nothing is due, and a mutator that has stopped or waits for steps sleeps on `let_go`. At a stop each of them looks
+ * at the other one's flag for some microseconds before it sleeps, since most stops take no longer. */
+#define _GNU_SOURCE /* for sched_getaffinity */
 
 #include "gcflip_thread.h"
 
 #include <pthread.h>
+#include <sched.h>
 #include <stdbool.h>
 #include <stdlib.h>
 #include <time.h>
 
-/* The steps between two looks at whether the heap is being closed. After them a mutator that waits learns how far the collector is. */
-#define STEPS_BESIDE 1024u
+/* The steps between two looks at whether the heap is being closed, or the mutator's log is long. After them a mutator that waits learns how far the
+ * collector is. */
+#define STEPS_BESIDE 512u
 
-/* The steps that the collector performs at most while it holds the mutator, before it lets it go on in the same space: so many, and one for each 16 words
- * of the heap. The check of a flip goes through all words, and takes longer. */
-#define STEPS_HELD 2048u
-#define WORDS_EACH_STEP_HELD 16u
+/* The steps that the collector performs at most while it holds the mutator, before it lets it go on in the same space. */
+#define STEPS_HELD 1024u
 
-/* The stops of one collection after which the collector performs all steps that are left, so that each collection ends. */
-#define MOST_STOPS 64u
+/* After so many safepoints, and so many steps, the collector takes the mutator's log while it still copies. So the log that it takes last is short. */
+#define SAFEPOINTS_OF_LOG 128u
+#define STEPS_OF_LOG 8192u
+
+/* If the mutator writes faster than the collector applies, the collector stops it after so many steps, and holds it for so many. So a collection ends. */
+#define STEPS_LATE 1024u
+#define STEPS_HELD_LATE 2048u
+
+/* The tries to flip of one collection after which the collector performs all steps that are left, so that each collection ends. */
+#define MOST_TRIES 64u
+
+/* The steps for which one safepoint waits at most, and the time in nanoseconds, while the mutator has an eighth of the room to spare. */
+#define MOST_STEPS_WAITED 2048u
+#define MOST_TIME_WAITED 200000u
+
+/* How often a thread looks at a flag before it sleeps, and the pauses between two looks. A pause takes some tens of nanoseconds. */
+#define LOOKS 100u
+#define PAUSES 4u
+
+/* What one thread writes often lies at least so many bytes from what the other one writes. */
+#define LINE 64
 
 struct gcflip_thread {
-    uint32_t size, factor, least; /* as the heap was opened */
+    uint32_t size, factor, least, extra_roots; /* as the heap was opened */
+    uint32_t looks;                            /* before a thread sleeps: none if both threads share a processor */
 
     /* the mutator's thread alone */
     gcflip_mutator mutator;
-    uint32_t floor;     /* a safepoint that finds fewer free words calls the collector, or lets it catch up */
-    bool has_called;    /* a collection is under way */
-    uint32_t begun;     /* the free words when it was called for */
-    uint64_t seen_ends; /* the ends of collections that the mutator has seen */
+    uint32_t floor;      /* a safepoint that finds fewer free words calls the collector, or lets it catch up */
+    bool has_called;     /* a collection is under way */
+    uint32_t begun;      /* the free words when it was called for */
+    uint64_t expected;   /* the steps that it takes if it is like the last one */
+    uint32_t safepoints; /* those since the mutator last stopped */
+    uint64_t seen_ends;  /* the ends of collections that the mutator has seen */
+    uint32_t left;       /* the free words at the last safepoint */
+    bool has_waited;     /* a safepoint of this collection waited for steps */
+    uint32_t used;       /* the words that were allocated while the last collection was under way, or NOTHING_KNOWN */
 
     /* the collector's thread alone */
-    gcflip_collector collector;
+    _Alignas(LINE) gcflip_collector collector;
     bool is_prepared; /* the memory of the next flip is made */
+    uint32_t stops;   /* those of the collection that is under way */
+    uint64_t since;   /* the steps since the last of them */
+    bool is_late;     /* entries of a log were left when it stopped, or a flip was tried in vain */
 
-    pthread_t thread;
+    _Alignas(LINE) pthread_t thread;
     pthread_mutex_t lock;
     pthread_cond_t called; /* for the collector: something is due, the mutator has stopped or gone on, or the heap is being closed */
     pthread_cond_t let_go; /* for the mutator: it may go on, is asked to stop, or the collector has got on */
 
     /* under the lock */
+    bool is_open; /* the thread has tried to open the heap, with the answer `opened` */
+    uint32_t opened;
     bool due;
     bool is_asked;
     bool is_parked;
     bool is_let_go;
-    bool is_waiting; /* the mutator waits for the collector's steps */
     bool is_closing;
-    uint64_t steps; /* those beside the mutator, of the collection that is under way */
+    bool has_long_log;   /* the mutator has made many safepoints since it last stopped */
+    uint64_t steps;      /* those beside the mutator, of the collection that is under way */
+    uint64_t wanted;     /* the steps for which the mutator waits, or NEVER */
+    uint64_t last_steps; /* those of the last collection that flipped */
     gcflip_thread_counts counts;
 };
+
+/* No number of steps, and no number of words. */
+#define NEVER UINT64_MAX
+#define NOTHING_KNOWN UINT32_MAX
 
 static uint64_t now(void)
 {
@@ -60,47 +97,42 @@ static uint64_t now(void)
     return (uint64_t)time.tv_sec * 1000000000u + (uint64_t)time.tv_nsec;
 }
 
-/* ---- The collector's thread */
-
-/* Performs steps beside the mutator until none is left. Returns false if the heap is being closed. */
-static bool works_beside(gcflip_thread *thread)
+/* Waits until a flag of the other thread has this value, or the heap is being closed. Looks at it for a while before it sleeps. The caller has the lock. */
+static void waits_for(gcflip_thread *thread, pthread_cond_t *woken, const bool *flag, bool value)
 {
-    uint32_t answer = GCFLIP_DONE;
-    bool is_closing = false;
-
-    while (answer == GCFLIP_DONE && !is_closing) {
-        answer = gcflip_beside_work(&thread->collector, STEPS_BESIDE);
-        pthread_mutex_lock(&thread->lock);
-        thread->steps += answer == GCFLIP_DONE ? STEPS_BESIDE : 0;
-        if (thread->is_waiting) {
-            pthread_cond_signal(&thread->let_go);
-        }
-        is_closing = thread->is_closing;
+    for (uint32_t look = 0; look < thread->looks && *flag != value && !thread->is_closing; look++) {
         pthread_mutex_unlock(&thread->lock);
+        for (uint32_t k = 0; k < PAUSES; k++) {
+            __builtin_ia32_pause();
+        }
+        pthread_mutex_lock(&thread->lock);
     }
-    return !is_closing;
+    while (*flag != value && !thread->is_closing) {
+        pthread_cond_wait(woken, &thread->lock);
+    }
 }
 
-/* Asks the mutator to stop, and sleeps until it has. Returns false if the heap is being closed. */
+/* ---- The collector's thread */
+
+/* Waits until the mutator has gone on since it last stopped, asks it to stop, and waits until it has. Returns false if the heap is being closed. */
 static bool stops(gcflip_thread *thread)
 {
     bool closing;
 
     pthread_mutex_lock(&thread->lock);
-    while (thread->is_parked && !thread->is_closing) {
-        pthread_cond_wait(&thread->called, &thread->lock);
-    }
+    waits_for(thread, &thread->called, &thread->is_parked, false);
     if (!thread->is_closing) {
         gcflip_beside_ask(&thread->collector);
         thread->is_asked = true;
         pthread_cond_signal(&thread->let_go);
     }
-    while (!thread->is_parked && !thread->is_closing) {
-        pthread_cond_wait(&thread->called, &thread->lock);
-    }
+    waits_for(thread, &thread->called, &thread->is_parked, true);
     thread->is_asked = false;
+    thread->has_long_log = false;
     closing = thread->is_closing;
     pthread_mutex_unlock(&thread->lock);
+    thread->stops++;
+    thread->since = 0;
     return !closing;
 }
 
@@ -110,24 +142,88 @@ static uint32_t flips_held(gcflip_thread *thread)
     if (gcflip_beside_take(&thread->collector) != GCFLIP_DONE || gcflip_beside_place_roots(&thread->collector) != GCFLIP_DONE) {
         return GCFLIP_NOT_READY;
     }
-    if (gcflip_beside_work(&thread->collector, STEPS_HELD + thread->size / WORDS_EACH_STEP_HELD) != GCFLIP_CLEAN) {
+    if (gcflip_beside_work(&thread->collector, STEPS_HELD) != GCFLIP_CLEAN) {
         return GCFLIP_NOT_READY;
     }
     return gcflip_beside_flip(&thread->collector);
 }
 
-/* Tells the mutator that it may go on, and counts a collection that has ended after so many stops. */
-static void lets_go(gcflip_thread *thread, uint32_t answer, uint32_t stops)
+/* Lets the mutator go on, and counts a collection that has ended. */
+static void lets_go(gcflip_thread *thread, uint32_t answer)
 {
+    if (answer != GCFLIP_FLIPPED) {
+        gcflip_beside_go(&thread->collector);
+    }
     pthread_mutex_lock(&thread->lock);
     thread->counts.flips += answer == GCFLIP_FLIPPED;
-    if (answer == GCFLIP_FLIPPED && stops > thread->counts.most_stops) {
-        thread->counts.most_stops = stops;
+    if (answer == GCFLIP_FLIPPED) {
+        thread->last_steps = thread->steps;
+        if (thread->stops > thread->counts.most_stops) {
+            thread->counts.most_stops = thread->stops;
+        }
     }
     thread->counts.failed += answer == GCFLIP_NO_MEMORY;
     thread->is_let_go = true;
     pthread_cond_signal(&thread->let_go);
     pthread_mutex_unlock(&thread->lock);
+}
+
+/* Takes the mutator's log at a stop of its own. If entries of an earlier log are left, applies some of them first. Returns false if the heap is being
+ * closed. */
+static bool takes_log(gcflip_thread *thread)
+{
+    if (!stops(thread)) {
+        return false;
+    }
+    if (gcflip_beside_take(&thread->collector) != GCFLIP_DONE) {
+        thread->is_late = true;
+        gcflip_beside_work(&thread->collector, STEPS_HELD_LATE);
+        gcflip_beside_take(&thread->collector);
+    }
+    lets_go(thread, GCFLIP_NOT_READY);
+    return true;
+}
+
+/* Whether the collector takes the log now. */
+static bool wants_log(const gcflip_thread *thread, bool has_long_log)
+{
+    return thread->is_late ? thread->since >= STEPS_LATE : has_long_log && thread->since >= STEPS_OF_LOG;
+}
+
+/* Tells the mutator how far the collector is. Returns false if the heap is being closed. */
+static bool tells(gcflip_thread *thread, uint32_t steps, bool *has_long_log)
+{
+    bool closing;
+
+    pthread_mutex_lock(&thread->lock);
+    thread->steps += steps;
+    if (thread->wanted <= thread->steps) {
+        pthread_cond_signal(&thread->let_go);
+    }
+    *has_long_log = thread->has_long_log;
+    closing = thread->is_closing;
+    pthread_mutex_unlock(&thread->lock);
+    return !closing;
+}
+
+/* Performs steps beside the mutator until none is left, and takes its log whenever that is long. Returns false if the heap is being closed. */
+static bool works_beside(gcflip_thread *thread)
+{
+    uint32_t answer = GCFLIP_DONE;
+
+    while (answer == GCFLIP_DONE) {
+        bool has_long_log;
+
+        answer = gcflip_beside_work(&thread->collector, STEPS_BESIDE);
+        thread->since += STEPS_BESIDE;
+        if (!tells(thread, answer == GCFLIP_DONE ? STEPS_BESIDE : 0, &has_long_log)) {
+            return false;
+        }
+        if (answer == GCFLIP_DONE && wants_log(thread, has_long_log) && !takes_log(thread)) {
+            return false;
+        }
+    }
+    return true;
 }
 
 /* Makes the memory of the next flip, beside the mutator. Returns false if there is none. */
@@ -139,27 +235,27 @@ static bool prepares(gcflip_thread *thread)
     return thread->is_prepared;
 }
 
-/* One collection, until it flips or memory runs out. */
+/* One collection, until it flips or memory runs out. The first stop is for the roots. */
 static void collects(gcflip_thread *thread)
 {
     uint32_t answer = GCFLIP_NOT_READY;
 
     if (!prepares(thread)) {
-        lets_go(thread, GCFLIP_NO_MEMORY, 0);
+        lets_go(thread, GCFLIP_NO_MEMORY);
         return;
     }
-    for (uint32_t k = 1; answer == GCFLIP_NOT_READY; k++) {
+    thread->stops = 0;
+    thread->is_late = false;
+    for (uint32_t tries = 1; answer == GCFLIP_NOT_READY; tries++) {
         if (!works_beside(thread) || !stops(thread)) {
             return;
         }
         answer = flips_held(thread);
-        if (answer == GCFLIP_NOT_READY && k >= MOST_STOPS) {
+        if (answer == GCFLIP_NOT_READY && tries >= MOST_TRIES) {
             answer = gcflip_beside_finish(&thread->collector);
         }
-        if (answer != GCFLIP_FLIPPED) {
-            gcflip_beside_go(&thread->collector);
-        }
-        lets_go(thread, answer, k);
+        thread->is_late = tries > 1;
+        lets_go(thread, answer);
     }
     thread->is_prepared = answer != GCFLIP_FLIPPED;
     prepares(thread);
@@ -169,7 +265,14 @@ static void *run(void *argument)
 {
     gcflip_thread *thread = argument;
     bool closing = false;
+    uint32_t opened = gcflip_beside_open(&thread->mutator, &thread->collector, thread->size, thread->extra_roots);
 
+    pthread_mutex_lock(&thread->lock);
+    thread->opened = opened;
+    thread->is_open = true;
+    thread->is_prepared = opened == GCFLIP_DONE;
+    pthread_cond_signal(&thread->let_go);
+    pthread_mutex_unlock(&thread->lock);
     while (!closing) {
         pthread_mutex_lock(&thread->lock);
         while (!thread->due && !thread->is_closing) {
@@ -192,15 +295,26 @@ static uint32_t room(gcflip_thread *thread)
     return gcflip_beside_room(&thread->mutator);
 }
 
-/* The words in use at which a collection begins, after one that left so many: gcflip_pace_due has the same policy. */
+static uint64_t greater(uint64_t a, uint64_t b)
+{
+    return a > b ? a : b;
+}
+
+/* The words in use at which a collection begins at the latest, after one that left so many. If nothing waited during that one, so much room is enough as is
+ * twice what was allocated meanwhile, but at least an eighth of the heap. */
+static uint64_t latest(const gcflip_thread *thread, uint32_t left)
+{
+    uint64_t halfway = ((uint64_t)left + thread->size) / 2, room = greater(2 * (uint64_t)thread->used, thread->size / 8);
+
+    return thread->used == NOTHING_KNOWN || room > thread->size ? halfway : greater(halfway, thread->size - room);
+}
+
+/* The words in use at which a collection begins, after one that left so many: but for `latest`, gcflip_pace_due has the same policy. */
 static uint32_t beginning(const gcflip_thread *thread, uint32_t left)
 {
-    uint64_t grown = (uint64_t)thread->factor * left / 100, halfway = ((uint64_t)left + thread->size) / 2;
+    uint64_t grown = greater((uint64_t)thread->factor * left / 100, thread->least), last = latest(thread, left);
 
-    if (grown < thread->least) {
-        grown = thread->least;
-    }
-    return (uint32_t)(grown < halfway ? grown : halfway);
+    return (uint32_t)(grown < last ? grown : last);
 }
 
 /* No collection is under way. The next one begins where its beginning is reached. */
@@ -210,13 +324,26 @@ static void rests(gcflip_thread *thread)
     thread->floor = thread->size - beginning(thread, thread->size - room(thread)) + 1;
 }
 
-/* The room below which the mutator waits: seven eighths of what there was before the first step, and one eighth after as many steps as words were in use.
- * Few collections take more steps. */
+/* The room that a collection leaves to the mutator after all its steps: below it, the mutator waits for the end. */
+static uint32_t spare(const gcflip_thread *thread)
+{
+    return thread->begun / 8;
+}
+
+/* The room below which the mutator waits: seven eighths of what there was before the first step, a quarter after the steps that are expected, and one
+ * eighth after as many steps as words were in use. Few collections take more steps. */
 static uint32_t floor_after(const gcflip_thread *thread, uint64_t steps)
 {
-    uint64_t spare = thread->begun / 8, shared = thread->begun - 2 * spare, in_use = thread->size - thread->begun;
+    uint64_t begun = thread->begun, most = thread->size - thread->begun, expected = thread->expected < most ? thread->expected : most;
+    uint64_t quarter = begun / 4;
 
-    return (uint32_t)(spare + (steps < in_use ? shared - shared * steps / in_use : 0));
+    if (steps < expected) {
+        return (uint32_t)(begun - begun / 8 - (begun - begun / 8 - quarter) * steps / expected);
+    }
+    if (steps < most) {
+        return (uint32_t)(quarter - (quarter - spare(thread)) * (steps - expected) / (most - expected));
+    }
+    return spare(thread);
 }
 
 /* Wakes the collector for a collection, unless one is under way. */
@@ -226,11 +353,13 @@ static void calls(gcflip_thread *thread)
         return;
     }
     thread->has_called = true;
+    thread->has_waited = false;
     thread->begun = room(thread);
+    thread->safepoints = 0;
     pthread_mutex_lock(&thread->lock);
     thread->due = true;
     thread->steps = 0;
-    thread->floor = floor_after(thread, 0);
+    thread->expected = thread->last_steps == 0 ? thread->size : thread->last_steps + thread->last_steps / 4;
     pthread_cond_signal(&thread->called);
     pthread_mutex_unlock(&thread->lock);
 }
@@ -245,6 +374,7 @@ static void sees_ends(gcflip_thread *thread)
 {
     if (thread->seen_ends != ends(thread)) {
         thread->seen_ends = ends(thread);
+        thread->used = thread->has_waited ? NOTHING_KNOWN : thread->begun - thread->left;
         rests(thread);
     }
 }
@@ -257,20 +387,22 @@ static void keeps_longest(gcflip_thread *thread, uint64_t waited)
     }
 }
 
-/* Sleeps until the mutator, which has stopped, may go on. */
+/* Waits until the mutator, which has stopped, may go on. */
 static void waits(gcflip_thread *thread)
 {
     uint64_t begun = now(), waited;
 
     pthread_mutex_lock(&thread->lock);
-    thread->is_parked = true;
     thread->is_let_go = false;
+    thread->is_parked = true;
     pthread_cond_signal(&thread->called);
-    while (!thread->is_let_go || gcflip_beside_resume(&thread->mutator) == GCFLIP_NOT_YET) {
+    waits_for(thread, &thread->let_go, &thread->is_let_go, true);
+    while (gcflip_beside_resume(&thread->mutator) == GCFLIP_NOT_YET) {
         pthread_cond_wait(&thread->let_go, &thread->lock);
     }
     thread->is_parked = false;
     pthread_cond_signal(&thread->called);
+    thread->safepoints = 0;
     sees_ends(thread);
     waited = now() - begun;
     thread->counts.stops++;
@@ -279,15 +411,17 @@ static void waits(gcflip_thread *thread)
     pthread_mutex_unlock(&thread->lock);
 }
 
-/* Sleeps until `is_over`, which is asked with the lock. Stops meanwhile whenever the collector asks for it. */
-static void stands_by(gcflip_thread *thread, bool (*is_over)(const gcflip_thread *thread, uint64_t argument), uint64_t argument)
+/* Sleeps until `is_over`, which is asked with the lock, or until this time. Stops meanwhile whenever the collector asks for it. */
+static void stands_by(gcflip_thread *thread, bool (*is_over)(const gcflip_thread *thread, uint64_t argument), uint64_t argument, uint64_t until)
 {
+    struct timespec time = {(time_t)(until / 1000000000u), (long)(until % 1000000000u)};
+
     for (;;) {
-        bool over;
+        bool over = false;
 
         pthread_mutex_lock(&thread->lock);
-        while (!(over = is_over(thread, argument)) && !thread->is_asked) {
-            pthread_cond_wait(&thread->let_go, &thread->lock);
+        while (!over && !thread->is_asked) {
+            over = is_over(thread, argument) || (until == NEVER ? pthread_cond_wait(&thread->let_go, &thread->lock) : pthread_cond_timedwait(&thread->let_go, &thread->lock, &time)) != 0;
         }
         pthread_mutex_unlock(&thread->lock);
         if (over) {
@@ -299,45 +433,64 @@ static void stands_by(gcflip_thread *thread, bool (*is_over)(const gcflip_thread
     }
 }
 
-/* The collector is far enough, with some room to spare so that a wait pays, or the collection has ended. */
-static bool has_caught_up(const gcflip_thread *thread, uint64_t free_words)
+/* The collector has performed the steps for which the mutator waits, or the collection has ended. */
+static bool has_caught_up(const gcflip_thread *thread, uint64_t wanted)
 {
-    return !thread->has_called || free_words >= (uint64_t)floor_after(thread, thread->steps) + thread->begun / 32;
+    return !thread->has_called || thread->seen_ends != ends(thread) || thread->steps >= wanted;
 }
 
-/* The mutator has less room than the collector's steps let it have: lets the collector catch up. */
+/* The mutator has less room than the steps that it knows of let it have: looks how many there are now. Then lets the collector perform some more if that is
+ * still too little, or all if little room is left. */
 static void falls_back(gcflip_thread *thread)
 {
-    uint64_t begun, before, free_words = room(thread);
+    uint64_t begun, before = thread->counts.waited, wanted;
+    uint32_t free_words = room(thread);
     bool is_ahead;
 
     pthread_mutex_lock(&thread->lock);
-    thread->floor = floor_after(thread, thread->steps);
-    is_ahead = free_words < thread->floor;
-    thread->is_waiting = is_ahead;
-    before = thread->counts.waited;
+    sees_ends(thread);
+    if (thread->has_called) {
+        thread->floor = floor_after(thread, thread->steps);
+    }
+    is_ahead = thread->has_called && free_words < thread->floor;
+    wanted = free_words > spare(thread) ? thread->steps + MOST_STEPS_WAITED : NEVER;
+    thread->wanted = is_ahead ? wanted : NEVER;
     pthread_mutex_unlock(&thread->lock);
     if (!is_ahead) {
         return;
     }
+    thread->has_waited = true;
     begun = now();
-    stands_by(thread, has_caught_up, free_words);
+    stands_by(thread, has_caught_up, wanted, wanted == NEVER ? NEVER : begun + MOST_TIME_WAITED);
     begun = now() - begun;
     pthread_mutex_lock(&thread->lock);
-    thread->is_waiting = false;
+    sees_ends(thread);
     if (thread->has_called) {
         thread->floor = floor_after(thread, thread->steps);
     }
+    thread->wanted = NEVER;
     thread->counts.throttled++;
     thread->counts.waited = before + begun;
     keeps_longest(thread, begun);
     pthread_mutex_unlock(&thread->lock);
 }
 
+/* Tells the collector that the mutator's log may be long. */
+static void asks_for_stop(gcflip_thread *thread)
+{
+    pthread_mutex_lock(&thread->lock);
+    thread->has_long_log = true;
+    pthread_mutex_unlock(&thread->lock);
+}
+
 uint32_t gcflip_thread_safepoint(gcflip_thread *thread)
 {
+    thread->left = room(thread);
     if (gcflip_beside_safepoint(&thread->mutator) == GCFLIP_PARKED) {
         waits(thread);
+    }
+    if (thread->has_called && ++thread->safepoints == SAFEPOINTS_OF_LOG) {
+        asks_for_stop(thread);
     }
     if (room(thread) < thread->floor) {
         calls(thread);
@@ -361,8 +514,10 @@ uint32_t gcflip_thread_collect(gcflip_thread *thread)
     flips = thread->counts.flips;
     pthread_mutex_unlock(&thread->lock);
     calls(thread);
-    stands_by(thread, has_ended, so_far);
+    thread->has_waited = true;
+    stands_by(thread, has_ended, so_far, NEVER);
     pthread_mutex_lock(&thread->lock);
+    sees_ends(thread);
     has_flipped = thread->counts.flips != flips;
     pthread_mutex_unlock(&thread->lock);
     return has_flipped ? GCFLIP_FLIPPED : GCFLIP_NO_MEMORY;
@@ -382,6 +537,20 @@ void gcflip_thread_read(gcflip_thread *thread, gcflip_thread_counts *counts)
 
 /* ---- Opening and closing */
 
+/* Makes a condition variable for waits by the monotonic clock. Returns false if the system refuses it. */
+static bool makes_timed(pthread_cond_t *made)
+{
+    pthread_condattr_t options;
+    bool is_made;
+
+    if (pthread_condattr_init(&options) != 0) {
+        return false;
+    }
+    is_made = pthread_condattr_setclock(&options, CLOCK_MONOTONIC) == 0 && pthread_cond_init(made, &options) == 0;
+    pthread_condattr_destroy(&options);
+    return is_made;
+}
+
 /* Makes the lock and the condition variables. Returns false if the system refuses one. */
 static bool makes_lock(gcflip_thread *thread)
 {
@@ -389,7 +558,7 @@ static bool makes_lock(gcflip_thread *thread)
         return false;
     }
     if (pthread_cond_init(&thread->called, NULL) == 0) {
-        if (pthread_cond_init(&thread->let_go, NULL) == 0) {
+        if (makes_timed(&thread->let_go)) {
             return true;
         }
         pthread_cond_destroy(&thread->called);
@@ -405,36 +574,56 @@ static void drops_lock(gcflip_thread *thread)
     pthread_mutex_destroy(&thread->lock);
 }
 
+/* Returns whether this thread may run on one processor only, so that the two threads would wait for each other's turn. */
+static bool has_one_processor(void)
+{
+    cpu_set_t set;
+
+    return sched_getaffinity(0, sizeof set, &set) == 0 && CPU_COUNT(&set) == 1;
+}
+
+/* Starts the thread, which opens the heap, so that both ends' memory comes from where the thread's own later memory does. Returns the answer of the opening. */
+static uint32_t starts(gcflip_thread *thread)
+{
+    if (pthread_create(&thread->thread, NULL, run, thread) != 0) {
+        return GCFLIP_NO_MEMORY;
+    }
+    pthread_mutex_lock(&thread->lock);
+    while (!thread->is_open) {
+        pthread_cond_wait(&thread->let_go, &thread->lock);
+    }
+    thread->is_closing = thread->opened != GCFLIP_DONE;
+    pthread_cond_signal(&thread->called);
+    pthread_mutex_unlock(&thread->lock);
+    if (thread->opened != GCFLIP_DONE) {
+        pthread_join(thread->thread, NULL);
+    }
+    return thread->opened;
+}
+
 uint32_t gcflip_thread_open(gcflip_thread **opened, uint32_t size, uint32_t extra_roots, const gcflip_pace *pace)
 {
     gcflip_thread *thread;
-    uint32_t answer;
+    uint32_t answer = GCFLIP_NO_MEMORY;
 
     *opened = NULL;
     if (pace->factor < 100 || pace->factor > 10000) {
         return GCFLIP_OUT_OF_RANGE;
     }
-    thread = calloc(1, sizeof *thread);
+    thread = aligned_alloc(LINE, sizeof *thread);
     if (thread == NULL) {
         return GCFLIP_NO_MEMORY;
     }
-    answer = gcflip_beside_open(&thread->mutator, &thread->collector, size, extra_roots);
-    if (answer == GCFLIP_DONE) {
-        thread->size = size;
-        thread->factor = pace->factor;
-        thread->least = pace->least;
-        thread->is_prepared = true;
-        rests(thread);
-        if (makes_lock(thread)) {
-            if (pthread_create(&thread->thread, NULL, run, thread) == 0) {
-                *opened = thread;
-                return GCFLIP_DONE;
-            }
-            drops_lock(thread);
+    *thread = (gcflip_thread){.size = size, .factor = pace->factor, .least = pace->least, .extra_roots = extra_roots, .wanted = NEVER, .used = NOTHING_KNOWN};
+    thread->looks = has_one_processor() ? 0 : LOOKS;
+    if (makes_lock(thread)) {
+        answer = starts(thread);
+        if (answer == GCFLIP_DONE) {
+            rests(thread);
+            *opened = thread;
+            return GCFLIP_DONE;
         }
-        gcflip_beside_close_collector(&thread->collector);
-        gcflip_beside_close_mutator(&thread->mutator);
-        answer = GCFLIP_NO_MEMORY;
+        drops_lock(thread);
     }
     free(thread);
     return answer;

@@ -4,10 +4,15 @@
  * All calls are made by one thread, the mutator's. It performs the commands of gcflip_beside.h on gcflip_thread_mutator, and makes safepoints by
  * gcflip_thread_safepoint. A program that makes none is never stopped, and then no collection ends.
  *
- * A collection begins by the policy of gcflip_pace in gcflip_heap.h, whose members `factor` and `least` count here. If the mutator then allocates
- * faster than the collector copies, its safepoints wait for the collector. Between two of them the program can allocate an eighth of the
- * words that were free when the collection began. So it finds the heap full only if it allocates more there, or if live objects leave too little
- * room. */
+ * A collection begins by the policy of gcflip_pace in gcflip_heap.h, whose members `factor` and `least` count here. Both spaces have all of their memory
+ * from the opening on. So a program that wants fewer collections sets `least` to UINT32_MAX, which takes no more memory. Each then begins once half of the
+ * room is used up, or later if the mutator allocated little during the last one.
+ *
+ * The collector stops the mutator once to copy the objects of its roots, now and then to take its log of writes, and once more to flip. It performs at
+ * most 2,048 steps at a stop, unless 64 tries to flip have failed. If the mutator allocates faster than the collector copies, its safepoints wait for
+ * the collector. Such a safepoint waits for 0.2 ms at most, or until the flip once less than an eighth is left of the words that were free when the
+ * collection began. Between two safepoints the program can allocate that eighth. So it finds the heap full only if it allocates more there, or if
+ * live objects leave too little room. */
 #ifndef GCFLIP_THREAD_H
 #define GCFLIP_THREAD_H
 
@@ -27,22 +32,23 @@ typedef struct gcflip_thread_counts {
     uint64_t failed;       /* the flips for which memory ran out */
     uint64_t stops;        /* how often the mutator stopped for the collector */
     uint64_t most_stops;   /* the stops of the flip that took most */
-    uint64_t throttled;    /* the safepoints that waited until the collector had caught up or flipped */
+    uint64_t throttled;    /* the safepoints that waited because the mutator was ahead of the collector */
     uint64_t waited;       /* the time that the mutator waited at safepoints, together */
     uint64_t longest_wait; /* the longest wait of a safepoint */
 } gcflip_thread_counts;
 
 /* Opens a heap of `size` words, at least 1, with at most 1048576 extra roots, and starts its collector's thread: GCFLIP_DONE. Of the pace, `factor` and
  * `least` count. A collection begins where the words in use are at least `factor` hundredths of those that the last flip left, and at least `least`.
- * It also begins where half of the room that the last flip left is used up. gcflip_pace_default fits most programs. A factor below 100 or above 10000
- * is out of range. If an allocation or the start of the thread fails, it returns GCFLIP_NO_MEMORY. It writes NULL if it does not return GCFLIP_DONE. */
+ * It also begins where half of the room that the last flip left is used up. If no safepoint waited for steps during the last
+ * collection, that comes later: once so many words are free as twice those that were allocated meanwhile, or an eighth of the heap if that is more.
+ * gcflip_pace_default fits most programs. A factor below 100 or above 10000 is out of range. If an allocation or the start of the thread fails, it returns GCFLIP_NO_MEMORY. It writes NULL if it does not return GCFLIP_DONE. */
 uint32_t gcflip_thread_open(gcflip_thread **thread, uint32_t size, uint32_t extra_roots, const gcflip_pace *pace);
 
 /* Returns the handle for commands. Safepoints are made by gcflip_thread_safepoint alone. */
 gcflip_mutator *gcflip_thread_mutator(gcflip_thread *thread);
 
 /* A safepoint: GCFLIP_DONE. If the collector asks for it, stops, and waits until the mutator may go on. Wakes the collector if a collection is due. If the
- * mutator is ahead of the collector, waits until this has caught up, or has flipped. */
+ * mutator is ahead of the collector, waits for a while, or for the flip if little room is left. */
 uint32_t gcflip_thread_safepoint(gcflip_thread *thread);
 
 /* Wakes the collector unless a collection is under way, and waits for its flip: GCFLIP_FLIPPED, or GCFLIP_NO_MEMORY if the flip was not made. A program

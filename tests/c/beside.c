@@ -405,6 +405,44 @@ static void raw_roots(void)
     close_both();
 }
 
+/* The mutator has stopped, and the collector tries to take it, which has this answer. Then the mutator goes on. */
+static void try_to_take(uint32_t answer)
+{
+    EXPECT(gcflip_beside_ask(&collector) == GCFLIP_DONE);
+    EXPECT(gcflip_beside_safepoint(&mutator) == GCFLIP_PARKED);
+    EXPECT(gcflip_beside_take(&collector) == answer);
+    EXPECT(gcflip_beside_flip(&collector) == (answer == GCFLIP_DONE ? GCFLIP_NOT_READY : GCFLIP_NOT_YET));
+    EXPECT(gcflip_beside_go(&collector) == GCFLIP_DONE);
+    EXPECT(gcflip_beside_resume(&mutator) == GCFLIP_DONE);
+}
+
+/* The collector takes the log while replicas are left to scan, and no second one before the entries of the first are applied. Steps apply them first. */
+static void takes_logs_early(void)
+{
+    enum { ENTRIES = 5 };
+
+    open_both(WORDS);
+    make_one();
+    begin_to_copy();
+    try_to_take(GCFLIP_DONE);
+    for (uint64_t k = 0; k < ENTRIES; k++) {
+        EXPECT(gcflip_beside_set_number(&mutator, 1, 7 + k % 2) == GCFLIP_DONE);
+        EXPECT(gcflip_beside_put(&mutator, 0, 1, 1) == GCFLIP_DONE);
+    }
+    try_to_take(GCFLIP_DONE);
+    for (uint32_t left = ENTRIES; left > 0; left--) {
+        try_to_take(GCFLIP_NOT_YET);
+        EXPECT(gcflip_beside_work(&collector, 1) == GCFLIP_DONE);
+    }
+    try_to_take(GCFLIP_DONE);
+    EXPECT(gcflip_beside_work(&collector, MANY) == GCFLIP_CLEAN);
+    take();
+    EXPECT(gcflip_beside_flip(&collector) == GCFLIP_FLIPPED);
+    go_on();
+    expect_one();
+    close_both();
+}
+
 /* Copying begins while the collector holds the mutator, and goes on beside it. */
 static void copies_beside(void)
 {
@@ -695,6 +733,7 @@ int main(void)
     handshakes();
     flips();
     raw_roots();
+    takes_logs_early();
     copies_beside();
     closes();
     refused_open();

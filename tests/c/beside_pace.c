@@ -86,7 +86,8 @@ static void expect_flip(uint64_t flips)
     EXPECT(false);
 }
 
-/* In a heap of 1,000 words half of the room is used up at word 500, which comes before `least`. Word 0 is always in use. An object takes 2 words at least. */
+/* In a heap of 1,000 words half of the room is used up at word 500, which comes before `least`. Word 0 is always in use. An object takes 2 words at least.
+   Nothing is allocated during the first collection. So the next one begins once an eighth of the heap is left, at word 875. */
 static void begins_halfway(void)
 {
     open_with(1000, 200, 65536);
@@ -97,6 +98,12 @@ static void begins_halfway(void)
     make_garbage(1, 2);
     expect_flip(1);
     EXPECT(1000 - gcflip_beside_room(mutator) == 3);
+    make_garbage(108, 8);
+    make_garbage(1, 7);
+    EXPECT(1000 - gcflip_beside_room(mutator) == 874);
+    expect_rest(1);
+    make_garbage(1, 2);
+    expect_flip(2);
     gcflip_thread_close(thread);
 }
 

@@ -7,7 +7,10 @@
 
 enum { WORDS = 4096, EXTRA = 100, LAST = GCFLIP_BESIDE_ROOTS + EXTRA - 1 };
 
-static _Atomic bool refuses;
+/* Blocks as large as half a space are refused alone, those that `prepare` makes and a flip does not. */
+enum { LARGE = 4 * WORDS };
+
+static _Atomic bool refuses, refuses_large;
 static _Atomic long blocks;
 
 static struct gcflip_memory memory_at(void *at)
@@ -19,7 +22,7 @@ static struct gcflip_memory memory_at(void *at)
 
 struct gcflip_memory rattle_alloc(size_t size, size_t alignment)
 {
-    void *at = refuses ? NULL : malloc(size ? size : alignment);
+    void *at = refuses || (refuses_large && size >= LARGE) ? NULL : malloc(size ? size : alignment);
     blocks += at != NULL;
     return memory_at(at);
 }
@@ -64,6 +67,36 @@ static void opening(void)
     EXPECT(blocks == 0);
 }
 
+/* Makes garbage until the heap is full, with a safepoint for each object. */
+static void fill(void)
+{
+    gcflip_mutator *mutator = gcflip_thread_mutator(thread);
+
+    while (gcflip_beside_new(mutator, 3, 1, 2) == GCFLIP_MADE)
+        EXPECT(gcflip_thread_safepoint(thread) == GCFLIP_DONE);
+}
+
+/* The memory of the next flip cannot be made: a mutator that waits for the collector's steps is let go, and finds the heap full. */
+static void lets_go_without_memory(void)
+{
+    gcflip_thread_counts counts;
+    uint64_t failed;
+
+    gcflip_thread_read(thread, &counts);
+    failed = counts.failed;
+    refuses_large = true;
+    /* a flip whose memory was made before, if there is one, succeeds */
+    gcflip_thread_collect(thread);
+    fill();
+    gcflip_thread_read(thread, &counts);
+    EXPECT(counts.failed > failed);
+    EXPECT(gcflip_thread_collect(thread) == GCFLIP_NO_MEMORY);
+    refuses_large = false;
+    expect_object();
+    EXPECT(gcflip_thread_collect(thread) == GCFLIP_FLIPPED);
+    expect_object();
+}
+
 int main(void)
 {
     gcflip_thread_counts counts;
@@ -97,6 +130,7 @@ int main(void)
     EXPECT(gcflip_thread_collect(thread) == GCFLIP_FLIPPED);
     EXPECT(gcflip_beside_room(mutator) == WORDS - 1 - 4);
     expect_object();
+    lets_go_without_memory();
     gcflip_thread_close(thread);
     EXPECT(blocks == 0);
     return 0;

@@ -1,5 +1,5 @@
 /* How often a collector's thread stops the mutator for one flip: once to copy the objects of all roots, and once more to flip, however many roots there are.
-   What the roots reach takes more steps than the collector performs while it holds the mutator. */
+   What the roots reach takes more steps than the collector performs while it holds the mutator. A mutator that writes meanwhile stops more often, for its log. */
 #include "expect.h"
 #include "gcflip_thread.h"
 #include <stdbool.h>
@@ -68,6 +68,51 @@ static void one_stop(void)
     gcflip_thread_close(thread);
 }
 
+/* A mutator that goes on to write while its heap is copied stops for its log too, and each collection ends all the same. */
+static void stops_for_logs(void)
+{
+    gcflip_thread_counts counts = {0};
+    gcflip_pace pace = gcflip_pace_default();
+
+    pace.factor = 100;
+    pace.least = 0;
+    EXPECT(gcflip_thread_open(&thread, WORDS, 0, &pace) == GCFLIP_DONE);
+    mutator = gcflip_thread_mutator(thread);
+    make_objects(FIRST, false);
+    EXPECT(gcflip_beside_copy(mutator, FIRST, LIST) == GCFLIP_DONE);
+    while (counts.flips < 10) {
+        for (uint32_t k = 0; k < 1000; k++) {
+            EXPECT(gcflip_beside_get(mutator, NUMBER, LIST, 0, &(uint64_t){0}) >= GCFLIP_NIL);
+            EXPECT(gcflip_beside_put(mutator, FIRST, 0, NUMBER) == GCFLIP_DONE);
+            EXPECT(gcflip_thread_safepoint(thread) == GCFLIP_DONE);
+        }
+        gcflip_thread_read(thread, &counts);
+    }
+    EXPECT(counts.failed == 0 && counts.most_stops > 2);
+    EXPECT(gcflip_thread_collect(thread) == GCFLIP_FLIPPED);
+    expect_objects(FIRST);
+    gcflip_thread_close(thread);
+}
+
+/* A heap is closed at any point of a collection, and its thread ends. */
+static void closes_anywhere(void)
+{
+    gcflip_pace pace = gcflip_pace_default();
+
+    pace.factor = 100;
+    pace.least = 0;
+    for (uint32_t writes = 0; writes < 300; writes++) {
+        EXPECT(gcflip_thread_open(&thread, 1 << 14, 0, &pace) == GCFLIP_DONE);
+        mutator = gcflip_thread_mutator(thread);
+        EXPECT(gcflip_beside_new(mutator, LIST, 1, 1000) == GCFLIP_MADE);
+        for (uint32_t k = 0; k < 7 * writes; k++) {
+            EXPECT(gcflip_beside_put(mutator, LIST, k % 1000, LIST) == GCFLIP_DONE);
+            EXPECT(gcflip_thread_safepoint(thread) == GCFLIP_DONE);
+        }
+        gcflip_thread_close(thread);
+    }
+}
+
 int main(void)
 {
     few_stops(0, false);
@@ -75,5 +120,7 @@ int main(void)
     few_stops(MOST_EXTRA, false);
     few_stops(MOST_EXTRA, true);
     one_stop();
+    stops_for_logs();
+    closes_anywhere();
     return 0;
 }

@@ -23,8 +23,7 @@ pub record KeepsBeginning (old new : Theirs) : Type 0 where
   pub from : new.old ≡ old.old
   pub into : new.size ≡ old.size
 
--- Nothing was due, and every replica was scanned. Now the entries of the mutator's log are due, and nothing else has changed.
+-- Nothing was due. Now the entries of the mutator's log are due, and nothing else has changed.
 pub record TakesLog (old new : Theirs) : Type 0 where
   pub applied : old.due ≡ []
-  pub scanned : scan_done (its old) ≡ true
   pub rest : new ≡ record old { due = new.due }

@@ -385,16 +385,25 @@ impl Copier {
         true
     }
 
+    /// Returns whether nothing is due.
+    pub(crate) fn has_nothing_due(&self) -> bool
+        ensures filled { IsTrue result → self.now.fill_left ≡ 0 }
+        ensures none { IsTrue result → self.now.seat.me.0.theirs.due ≡ [] }
+        ensures some { IsFalse result → is_empty self.now.seat.me.0.theirs.due ≡ false }
+    {
+        if self.fill_left != 0 {
+            return false;
+        }
+        self.next >= self.due.len()
+    }
+
     /// Returns whether nothing is due and every replica is scanned.
     pub(crate) fn is_idle(&self) -> bool
         ensures filled { IsTrue result → self.now.fill_left ≡ 0 }
         ensures idle { IsTrue result → (self.now.seat.me.0.theirs.due ≡ []) × (scan_done (its self.now.seat.me.0.theirs) ≡ true) }
         ensures busy { IsFalse result → is_empty self.now.seat.me.0.theirs.due && scan_done (its self.now.seat.me.0.theirs) ≡ false }
     {
-        if self.fill_left != 0 {
-            return false;
-        }
-        if self.next < self.due.len() {
+        if !self.has_nothing_due() {
             return false;
         }
         self.scan_place >= self.space.end()

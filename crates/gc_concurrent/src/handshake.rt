@@ -280,11 +280,11 @@ impl Asking {
         self.copier.work()
     }
 
-    /// Takes the mutator with its log, if it has stopped, nothing is due, and every replica is scanned.
+    /// Takes the mutator with its log, if it has stopped and nothing is due. Replicas may be left to scan.
     pub fn take(self) -> Result<Holding, Asking>
         ensures { MatchResult result (λ holding. TakesLog (known_to self.copier) (known_to holding.held.copier)) (λ asking. asking.copier ≡ self.copier) }
     {
-        if !self.copier.is_idle() {
+        if !self.copier.has_nothing_due() {
             return Err(self);
         }
         let Asking {

@@ -108,7 +108,7 @@ Asks (asks t) new answer = (answer ≡ done) × (new ≡ asks t)
 Asks (holds t heap) new answer = (answer ≡ done) × (new ≡ holds t heap)
 Asks old new answer = (answer ≡ closed_handle) × (new ≡ old)
 
--- Nothing was due, and every replica was scanned. Now the entries of the mutator's log are due.
+-- Nothing was due. Now the entries of the mutator's log are due.
 abbrev pub HoldsAfter : Theirs → HandleStage → Type 0
 HoldsAfter t (holds u heap) = TakesLog t u
 HoldsAfter t new = ⊥

@@ -134,7 +134,7 @@ fn taken(end: End) -> (End, u32)
     }
 }
 
-/// Takes the mutator with its log, if it has stopped and no step is left. Returns 0 if the collector holds it, 13 if not yet, and 3 if the handle has no
+/// Takes the mutator with its log, if it has stopped and no entry of an earlier log is left. Returns 0 if the collector holds it, 13 if not yet, and 3 if the handle has no
 /// collector.
 #[unsafe(no_mangle)]
 pub extern "C" fn gcflip_beside_take(collector: &mut GcflipEnd) -> u32

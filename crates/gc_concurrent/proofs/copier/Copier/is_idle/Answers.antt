@@ -1,4 +1,4 @@
--- The tests say it.
+-- Nothing due, and the scan pointer at the end.
 use Rattle.std.proofs.Common.{◌≡◌, ◌&&◌, ◌<◌, ◌≤◌, false, ap, ◌∙◌, arith}
 use Rattle.std.proofs.lemmas.Bool.{leb-true, leb-false, ne_eqb}
 use Rattle.gc_words.specs.Space.{end_of}
@@ -6,22 +6,21 @@ use Rattle.gc_model.specs.State.{new_end}
 use Rattle.gc_model.specs.Steps.{is_empty, scan_done}
 use Rattle.gc_concurrent.specs.Ends.{its}
 use Rattle.gc_concurrent.proofs.Memory.{end_is, scan_end}
-use Rattle.gc_concurrent.proofs.InHand.{mem, none_left, some_left, and_false}
+use Rattle.gc_concurrent.proofs.InHand.{mem, and_false}
 use Rattle.gc_concurrent.proofs.copier.Copier.is_idle.Goals as goal
 
 pub returns-clause-idle : goal.returns-clause-idle
 returns-clause-idle c past =
     let a = c.args.self.now in
     let end : c.end.result ≤ a.scan_place = leb-true c.end.result a.scan_place past in (
-      a.dues.0 ∙ none_left a.fill a.fill_next a.fill_left a.next a.due.items (omega arith) (omega arith),
+      c.has_nothing_due.ensures.none c.if-not-has_nothing_due.false,
       scan_end a.seat.me.0.theirs a.space (mem a) a.loose (let e = a.scans.0 in omega (arith, c.end.ensures.value)),
     )
 
-pub returns-then-self-len-clause-busy : goal.returns-then-self-len-clause-busy
-returns-then-self-len-clause-busy c _ =
-    let a = c.args.self.now in
-    let t = a.seat.me.0.theirs in
-    ap (λ (b : _). b && scan_done (its t)) (ap is_empty a.dues.0 ∙ some_left a.fill a.fill_next a.fill_left a.next a.due.items (omega arith) (omega (arith, c.len.ensures)))
+pub returns-then-not-has_nothing_due-clause-busy : goal.returns-then-not-has_nothing_due-clause-busy
+returns-then-not-has_nothing_due-clause-busy c _ =
+    let t = c.args.self.now.seat.me.0.theirs in
+    ap (λ (b : _). b && scan_done (its t)) (c.has_nothing_due.ensures.some c.if-not-has_nothing_due.true)
 
 pub returns-clause-busy : goal.returns-clause-busy
 returns-clause-busy c past =
