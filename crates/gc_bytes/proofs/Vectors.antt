@@ -54,9 +54,9 @@ tops_bits fields = λ k. subst (λ b. b < 2) (sym (top_in fields k)) (bit_at-lt 
 
 -- ---- the words of fields
 
-pub length-words_of : (fields : List ℕ) → length (words_of fields) ≡ words_in (length fields)
+pub words_per_fields : (fields : List ℕ) → length (words_of fields) ≡ words_in (length fields)
 unfolding words_of
-length-words_of fields = length-map-range_with_len (word_at fields) 0 (words_in (length fields))
+words_per_fields fields = length-map-range_with_len (word_at fields) 0 (words_in (length fields))
 
 pub word_is : (fields : List ℕ) (i : ℕ) → i < words_in (length fields) → get_or (words_of fields) i 0 ≡ word_at fields i
 unfolding words_of
@@ -84,8 +84,8 @@ vector_again words all =
     let n = words_counted words in
     let count : length lows ≡ length words = length-map words low_bits in
     let bits : length (map top_bit words) ≡ length words = length-map words top_bit in
-    ext_get_or 0 (words_of fields) words (length-words_of fields ∙ n) (λ i less.
-    let inside : i < length words = (let k = length-words_of fields in omega arith) in
+    ext_get_or 0 (words_of fields) words (words_per_fields fields ∙ n) (λ i less.
+    let inside : i < length words = (let k = words_per_fields fields in omega arith) in
     let low : get_or fields i 0 ≡ low_bits (get_or words i 0) = get_or_append_left lows tops 0 i (omega arith) ∙ low_at words i inside in
     let top : get_or (tops_of fields) i 0 ≡ top_bit (get_or words i 0) =
     top_in fields i
@@ -255,7 +255,7 @@ module _ (fields words : List ℕ) (at : ℕ) (all : AreWords words) (within : a
   here i less =
       let low = length-map words low_bits in
       let top = length-map words top_bit in
-      let fit : at + length words ≤ length (words_of fields) = (let k = length-words_of fields in omega arith) in
+      let fit : at + length words ≤ length (words_of fields) = (let k = words_per_fields fields in omega arith) in
       let bits = bits_within fields words at within in
       let rows = lows_within in
       elim (cases_lt i at) [
@@ -277,7 +277,7 @@ module _ (fields words : List ℕ) (at : ℕ) (all : AreWords words) (within : a
 
   pub words_rewritten : words_of new ≡ overwritten (words_of fields) at words
   words_rewritten =
-      let k = length-words_of fields in
-      let s : length (words_of new) ≡ count = length-words_of new ∙ ap words_in same in
+      let k = words_per_fields fields in
+      let s : length (words_of new) ≡ count = words_per_fields new ∙ ap words_in same in
       let o : length (overwritten (words_of fields) at words) ≡ length (words_of fields) = length-over (words_of fields) words at (omega arith) in
       ext_get_or 0 (words_of new) (overwritten (words_of fields) at words) (s ∙ sym k ∙ sym o) (λ i less. here i (omega arith))

@@ -25,11 +25,13 @@ pub fn changed_texts_are_read_again()
     ensures within { (text bytes : List ℕ) (at : ℕ) → at + length bytes ≤ length text → at / 7 + length (changed_words text at bytes) ≤ fields_for (length text) }
 {}
 
-/// The fields that a vector with these words has are a vector with these words. There is one field for each word, and one for each 63 words begun.
-#[tactic(auto, using(crate::proofs::Vectors::vector_again, crate::proofs::Vectors::fields_counted))]
+/// The fields that a vector with these words has are a vector with these words. There is one field for each word, and one for each 63 words begun. Fields have
+/// as many words as `words_in` says.
+#[tactic(auto, using(crate::proofs::Vectors::vector_again, crate::proofs::Vectors::fields_counted, crate::proofs::Vectors::words_per_fields))]
 pub fn vectors_are_read_again()
     ensures words { (words : List ℕ) → AreWords words → words_of (vector_fields words) ≡ words }
     ensures fields { (words : List ℕ) → length (vector_fields words) ≡ length words + tops_for (length words) }
+    ensures counted { (fields : List ℕ) → length (words_of fields) ≡ words_in (length fields) }
 {}
 
 /// Where words were written over those of a vector, the fields are the vector with these words from word `at` on. All others of its words are as before, and

@@ -2,7 +2,7 @@
 use Rattle.std.proofs.Common.{◌+◌, ◌-◌, length, take, drop, sym, ◌∙◌, arith}
 use Rattle.std.proofs.lemmas.List.{ext_get_or, get_or-drop, get_or-take, length-drop, length-take}
 use Rattle.gc_bytes.specs.Vector.{words_of}
-use Rattle.gc_bytes.proofs.Vectors.{length-words_of, word_is}
+use Rattle.gc_bytes.proofs.Vectors.{words_per_fields, word_is}
 use Rattle.gc_bytes.proofs.vector.read_words.Goals as goal
 
 pub returns : goal.returns
@@ -10,7 +10,7 @@ returns c =
     let f = c.args.fields.now in
     let at = c.args.at in
     let n = length c.args.out.now in
-    let all = length-words_of f in
+    let all = words_per_fields f in
     let back = length-drop at (words_of f) in
     let part = length-take (at + n - at) (drop at (words_of f)) in
     ext_get_or 0 c.loop-k.out (take (at + n - at) (drop at (words_of f))) (omega (arith, c.loop-k.auto.out, c.requires.inside)) (λ i less.
