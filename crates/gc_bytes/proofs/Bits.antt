@@ -47,7 +47,7 @@ over_behind xs es at i within past =
 abbrev pub AreBits : List ℕ → Type 0
 AreBits bits = (k : ℕ) → get_or bits k 0 < 2
 
-pub part_bits : (bits : List ℕ) (m n : ℕ) → AreBits bits → AreBits (take m (drop n bits))
+part_bits : (bits : List ℕ) (m n : ℕ) → AreBits bits → AreBits (take m (drop n bits))
 part_bits bits m n all = λ k. elim (cases_lt k m) [
   | inl less ↦ subst (λ b. b < 2) (sym (get_or-take m (drop n bits) k 0 less ∙ get_or-drop n bits k 0)) (all (n + k))
   | inr past ↦ let few = length-take m (drop n bits) in subst (λ b. b < 2) (sym (get_or_past (take m (drop n bits)) k 0 (omega arith))) (lit< tt)
@@ -62,7 +62,7 @@ over_bits xs es at within all others = λ k. elim (cases_lt k at) [
   ]
 ]
 
-pub bit_of_number : (bits : List ℕ) (i : ℕ) → AreBits bits → bit_at (bits_number bits) i ≡ get_or bits i 0
+bit_of_number : (bits : List ℕ) (i : ℕ) → AreBits bits → bit_at (bits_number bits) i ≡ get_or bits i 0
 unfolding bits_number
 bit_of_number [] i all = bit_at-zero i
 bit_of_number (b ∷ rest) zero all = let small = all 0 in bit_at_lowest (b + 2 * bits_number rest) ∙ (let e : (b + 2 * bits_number rest) % 2 ≡ b = omega arith in e)
@@ -91,7 +91,7 @@ pub bit_of : (field i : ℕ) → i < 63 → get_or (bits_of field) i 0 ≡ bit_a
 unfolding bits_of
 bit_of field i less = get_or-map-range_with_len (bit_at field) 0 63 i i 0 less (omega arith)
 
-pub field_bits : (field : ℕ) → AreBits (bits_of field)
+field_bits : (field : ℕ) → AreBits (bits_of field)
 field_bits field = λ k. elim (cases_lt k 63) [
   | inl less ↦ subst (λ b. b < 2) (sym (bit_of field k less)) (bit_at-lt field k)
   | inr past ↦ let n = length-bits field in subst (λ b. b < 2) (sym (get_or_past (bits_of field) k 0 (omega arith))) (lit< tt)

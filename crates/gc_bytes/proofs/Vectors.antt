@@ -20,7 +20,7 @@ word_small (w ∷ rest) (less, all) (suc i) = word_small rest all i
 pub top_at : (words : List ℕ) (i : ℕ) → i < length words → get_or (map top_bit words) i 0 ≡ top_bit (get_or words i 0)
 top_at words i less = get_or-map top_bit words i 0 0 less
 
-pub low_at : (words : List ℕ) (i : ℕ) → i < length words → get_or (map low_bits words) i 0 ≡ low_bits (get_or words i 0)
+low_at : (words : List ℕ) (i : ℕ) → i < length words → get_or (map low_bits words) i 0 ≡ low_bits (get_or words i 0)
 low_at words i less = get_or-map low_bits words i 0 0 less
 
 pub tops_from_index : (words : List ℕ) → ((i : ℕ) → get_or words i 0 < 2 ^ 64) → AreBits (map top_bit words)
@@ -29,7 +29,7 @@ tops_from_index words small = λ k. elim (cases_lt k (length words)) [
   | inr past ↦ let n = length-map words top_bit in subst (λ b. b < 2) (sym (get_or_past (map top_bit words) k 0 (omega arith))) (lit< tt)
 ]
 
-pub tops_are_bits : (words : List ℕ) → AreWords words → AreBits (map top_bit words)
+tops_are_bits : (words : List ℕ) → AreWords words → AreBits (map top_bit words)
 tops_are_bits words all = tops_from_index words (word_small words all)
 
 parts_of : (w : ℕ) → low_bits (low_bits w) + 2 ^ 63 * top_bit w ≡ w
@@ -43,13 +43,13 @@ top_in fields i =
     let n = words_in (length fields) in
     bit_in (drop n fields) i ∙ ap (λ x. bit_at x (i % 63)) (get_or-drop n fields (i / 63) 0)
 
-pub length-tops : (fields : List ℕ) → length (tops_of fields) ≡ 63 * (length fields - words_in (length fields))
+length-tops : (fields : List ℕ) → length (tops_of fields) ≡ 63 * (length fields - words_in (length fields))
 unfolding tops_of
 length-tops fields =
     let n = words_in (length fields) in
     length-bits_in (drop n fields) ∙ ap (λ k. 63 * k) (length-drop n fields)
 
-pub tops_bits : (fields : List ℕ) → AreBits (tops_of fields)
+tops_bits : (fields : List ℕ) → AreBits (tops_of fields)
 tops_bits fields = λ k. subst (λ b. b < 2) (sym (top_in fields k)) (bit_at-lt (get_or fields (words_in (length fields) + k / 63) 0) (k % 63))
 
 -- ---- the words of fields
@@ -73,7 +73,7 @@ fields_counted words =
     let e : tops_for (length (map top_bit words)) ≡ tops_for (length words) = ap tops_for c in
     omega arith
 
-pub words_counted : (words : List ℕ) → words_in (length (vector_fields words)) ≡ length words
+words_counted : (words : List ℕ) → words_in (length (vector_fields words)) ≡ length words
 words_counted words = let n = fields_counted words in omega arith
 
 pub vector_again : (words : List ℕ) → AreWords words → words_of (vector_fields words) ≡ words
