@@ -1,2 +1,4 @@
 pub mod Changed
+pub mod ChangedTops
 pub mod Text
+pub mod Vector

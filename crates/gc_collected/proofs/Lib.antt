@@ -36,4 +36,6 @@ mod Texts
 mod Together
 mod Unwritten
 mod ValuesPut
+mod WrittenNumbers
 mod WrittenTexts
+mod WrittenVectors

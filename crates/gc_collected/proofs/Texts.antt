@@ -4,15 +4,17 @@ use Rattle.std.specs.Prelude.{Bool, IsTrue, if◌then◌else◌}
 use Rattle.std.specs.Bool.{then_some}
 use Rattle.std.specs.Option.{option_and_then, option_map}
 use Rattle.gc_bytes.specs.Text.{text_of}
-use Rattle.gc_graph.specs.Graph.{Num, Object, lookup, number_of}
+use Rattle.gc_graph.specs.Graph.{Graph, Num, Object, Ref, lookup, number_of, object_of, root}
 use Rattle.gc_words.specs.Image.{Block, block_at, is_start, object_of_block, objects_of}
 use Rattle.gc_words.specs.Word.{field_value, value_of}
 use Rattle.gc_words.specs.declared.header.Header.{Header}
 use Rattle.gc_words.proofs.Public.{object_found}
-use Rattle.gc_model.specs.Belonging.{IsSpaceGraph}
+use Rattle.gc_model.specs.Belonging.{IsSpaceGraph, Laid}
 use Rattle.gc_model.specs.State.{State, heap_end}
 use Rattle.gc_model.proofs.Public.{laid_range, lookup_in}
 use Rattle.gc_collected.specs.Bytes.{text_of_object}
+use Rattle.gc_heap.specs.Places.{root_at}
+use Rattle.gc_collected.specs.Copying.{object_in}
 use Rattle.gc_collected.proofs.Referred.{start_named}
 
 -- the words of a raw object are its numbers
@@ -58,3 +60,10 @@ text_below s a text sound is at =
     let o = found_in (lookup s.heap.graph.objects a) text is in
     let range = laid_range 1 s.heap.graph.objects (heap_end s) (a, o.0) sound.laid (lookup_in s.heap.graph.objects a o.0 o.1) in
     omega (arith, range.1, at)
+
+-- and above 0
+pub object_above : (g : Graph) (p a end : ℕ) (o : Object) → Laid 1 g.objects end → root g p ≡ Ref a → Some o ≡ object_in g (root_at p) 0 → 0 ≡ a → ⊥
+object_above g p a end o laid target is at =
+    let there : lookup g.objects a ≡ Some o = ap (object_of g.objects) (sym target) ∙ sym is in
+    let range = laid_range 1 g.objects end (a, o) laid (lookup_in g.objects a o there) in
+    omega (arith, range.0, at)

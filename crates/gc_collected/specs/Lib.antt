@@ -16,5 +16,6 @@ pub mod Replies
 pub mod Spreading
 pub mod Surely
 pub mod Values
+pub mod Vectors
 pub mod Viewing
 pub mod Writing

@@ -455,7 +455,8 @@ pub(crate) fn note_row(collection: &mut Collection, m: u8, object: OldAddr, firs
     requires log { m < length collection.old.logs }
     requires fields { first + count ≤ 65535 }
     requires room { count ≤ spare_of collection.old m }
-    ensures { Logs collection.old m (fields_from object.0 first count) collection.new }
+    ensures logs { Logs collection.old m (fields_from object.0 first count) collection.new }
+    ensures spare { spare_of collection.old m ≤ spare_of collection.new m + count }
 {
     for k in 0..count {
         collection.note(m, object, first + k);

@@ -14,13 +14,11 @@ ghost use Rattle.gc_collected.specs.Numbers.{new_numbers_step};
 
 use crate::barrier::reserve_in;
 use crate::collected_heap::CollectedHeap;
-use crate::copying::object;
-use crate::numbers::{NumberRow, write_numbers};
+use crate::numbers::{NumberRow, raw_object, write_numbers};
 use gc_bytes::{
     ChangedWords, Text, changed_texts_are_read_again, fields_for, spelled_word,
     texts_are_read_again,
 };
-use gc_copy::heaps_have_addresses_as_names;
 use gc_graph::{NoMemory, Reply};
 use gc_heap::Heap;
 use gc_words::{Addr, Header, OldAddr};
@@ -237,16 +235,10 @@ fn text_object(heap: &Heap, s: u32) -> Option<FoundText<'_>>
     ensures long { IfSome result (λ found. fields_in (length found.2) ≡ found.1.len) }
     ensures apart { IfSome result (λ found. 0 ≢ found.0.0) }
 {
-    heaps_have_addresses_as_names();
     changed_texts_are_read_again();
-    // Here the prover learns that the heap is sound.
-    let _ = heap.space();
-    let (object, header, words) = object(heap, s)?;
-    if header.is_raw() {
-        let text = Text::of(words)?;
-        return Some((object, header, text));
-    }
-    None
+    let (object, header, words) = raw_object(heap, s)?;
+    let text = Text::of(words)?;
+    Some((object, header, text))
 }
 
 // Where a text lies, and how many bytes it has.

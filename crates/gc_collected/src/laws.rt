@@ -2,6 +2,7 @@
 
 ghost use Rattle.std.specs.Prelude.{◌≡◌, ℕ, List, ◌≤◌, ◌<◌, ◌-◌, ◌/◌, ◌^◌, Some, length};
 ghost use Rattle.gc_bytes.specs.Text.{AreBytes, overwritten};
+ghost use Rattle.gc_bytes.specs.Vector.{AreWords};
 ghost use Rattle.gc_graph.specs.Legal.{IsLegal, IsLegalFrom};
 ghost use Rattle.gc_graph.specs.Limits.{largest_space};
 ghost use Rattle.gc_heap.specs.ExtraRoots.{opening_with};
@@ -9,6 +10,7 @@ ghost use Rattle.gc_heap.specs.declared.options.HeapOptions.{HeapOptions};
 ghost use Rattle.gc_graph.specs.declared.reply.Reply.{Reply};
 ghost use Rattle.gc_model.specs.State.{State, opening_state};
 ghost use Rattle.gc_collected.specs.Bytes.{OnlyText, text_in, write_step};
+ghost use Rattle.gc_collected.specs.Vectors.{OnlyVector, vector_in, write_words_step};
 ghost use Rattle.gc_copy.specs.Opening.{opening_state_with};
 ghost use Rattle.gc_model.specs.Runs.{AreEvents, AreRootEvents};
 ghost use Rattle.gc_model.specs.declared.event.Event.{Event};
@@ -16,7 +18,7 @@ ghost use Rattle.gc_collected.specs.Replies.{told_in};
 ghost use Rattle.gc_collected.specs.Collected.{after_flips, opening_turns};
 ghost use Rattle.gc_collected.specs.declared.checks.Checking.{Checking};
 
-use gc_bytes::changed_texts_are_read_again;
+use gc_bytes::{changed_texts_are_read_again, changed_vectors_are_read_again};
 
 /// In every run, with commands and steps in any interleaving, mutators get replies that are possible without a
 /// collector. The one exception is that an allocation may find the heap full.
@@ -45,4 +47,12 @@ pub fn written_texts_are_read_again()
         → write_step old m p at bytes ≡ (Reply.Done, new) → OnlyText old.heap new.heap p (overwritten text at bytes) }
 {
     changed_texts_are_read_again();
+}
+
+/// Where words were written over those of a root's vector, the root refers to the vector with these words, and nothing else has changed.
+pub fn written_vectors_are_read_again()
+    ensures { (old new : State) (m p at : ℕ) (words vector : List ℕ) → AreWords words → p < length old.heap.graph.roots → vector_in old.heap.graph p ≡ Some vector
+        → write_words_step old m p at words ≡ (Reply.Done, new) → OnlyVector old.heap new.heap p (overwritten vector at words) }
+{
+    changed_vectors_are_read_again();
 }

@@ -25,6 +25,7 @@ mod rooms;
 mod spreading;
 mod steps;
 mod values;
+mod vectors;
 mod viewing;
 mod watching;
 mod writing;
@@ -35,7 +36,9 @@ pub use collected_heap::CollectedHeap;
 pub use filling::RootRow;
 pub use flip::Keep;
 pub use giving::{FieldValue, ValueRow};
-pub use laws::{flips_are_counted, runs_are_legal, written_texts_are_read_again};
+pub use laws::{
+    flips_are_counted, runs_are_legal, written_texts_are_read_again, written_vectors_are_read_again,
+};
 pub use mixed::{FieldSource, SourceRow};
 pub use reading::NewSpace;
 pub use steps::Choice;

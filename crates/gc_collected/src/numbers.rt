@@ -21,7 +21,7 @@ ghost use Rattle.gc_collected.specs.Internal.Numbered.{AreApart, IsNewRaw, Sourc
 
 use crate::barrier::{are_shown, are_sound_in, note_row, reserve_in};
 use crate::collected_heap::CollectedHeap;
-use crate::copying::object;
+use crate::copying::{Found, object};
 use crate::places::has_made;
 use gc_copy::{Collection, heaps_have_addresses_as_names};
 use gc_graph::{NoMemory, Reply, root_count};
@@ -62,8 +62,8 @@ impl CollectedHeap {
     {
         // Here the prover learns that the heap is sound.
         let _ = self.heap.space();
-        let (_, header, words) = object(&self.heap, s)?;
-        if header.is_raw() { Some(words) } else { None }
+        let (_, _, numbers) = raw_object(&self.heap, s)?;
+        Some(numbers)
     }
 
     /// Makes a raw object of this kind whose fields take these numbers, and sets root `d` to a reference to it. This is a `new_raw_at_root` followed, in
@@ -105,6 +105,28 @@ impl CollectedHeap {
         self.known
             .took_if(has_made(&made), d, root_count(self.heap.mutators()));
         Ok(made)
+    }
+}
+
+/// Returns the raw object that root `s` refers to: its address, its header and its numbers.
+#[inline(always)]
+pub(crate) fn raw_object(heap: &Heap, s: u32) -> Option<Found<'_>>
+    requires { s < length heap.now.roots }
+    ensures numbers { option_map (λ found. found.2.now) result ≡ raw_numbers (graph_in heap.now) (root_at s) 0 }
+    ensures target { IfSome result (λ found. root (graph_in heap.now) s ≡ Ref found.0.0) }
+    ensures header { IfSome result (λ found. header_at heap.now.space.words found.0.0 ≡ Some found.1) }
+    ensures raw { IfSome result (λ found. IsTrue found.1.raw) }
+    ensures long { IfSome result (λ found. length found.2.now ≡ found.1.len) }
+    ensures apart { IfSome result (λ found. 0 ≢ found.0.0) }
+{
+    heaps_have_addresses_as_names();
+    // Here the prover learns that the heap is sound.
+    let _ = heap.space();
+    let (object, header, numbers) = object(heap, s)?;
+    if header.is_raw() {
+        Some((object, header, numbers))
+    } else {
+        None
     }
 }
 
@@ -198,6 +220,12 @@ pub(crate) fn write_numbers<R: NumberRow>(
     ensures fits { (epoch : ℕ) → Fits epoch heap.old collection.old → Fits epoch heap.new collection.new }
     ensures mutators { heap.new.mutators ≡ heap.old.mutators }
     ensures follows { Follows (state_in heap.old collection.old) watch.old → Follows (state_in heap.new collection.new) watch.new }
+    // Another row of the same object can be written next.
+    ensures belongs { BelongsIfOpen heap.new collection.new }
+    ensures roots { heap.new.roots ≡ heap.old.roots }
+    ensures header { header_at heap.new.space.words object.0 ≡ Some header }
+    ensures spare { (more : ℕ) → HasSpare collection.old m (length (R.numbers row.now (sources_at (graph_in heap.old) (R.names row.now))) + more)
+        → HasSpare collection.new m more }
 {
     are_sound_in(collection, heap);
     // Here the prover learns that the heap is sound.
@@ -229,6 +257,8 @@ fn write_each<R: NumberRow>(
     requires apart { AreApart (R.names row.now) object.0 }
     requires fields { first + length (R.numbers row.now (sources_at (graph_in heap.old) (R.names row.now))) ≤ header.len }
     ensures puts { PutsAll heap.old s (numbered first (R.numbers row.now (sources_at (graph_in heap.old) (R.names row.now)))) heap.new }
+    ensures roots { heap.new.roots ≡ heap.old.roots }
+    ensures header { header_at heap.new.space.words object.0 ≡ Some header }
 {
     for k in 0..row.count() {
         let number = row.number(heap, k);

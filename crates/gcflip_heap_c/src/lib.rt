@@ -23,6 +23,7 @@ mod room;
 mod rows;
 mod slots;
 mod stepping;
+mod words;
 mod work;
 
 pub use bytes::{
@@ -65,4 +66,5 @@ pub use stepping::{
     gcflip_heap_step_flip, gcflip_heap_step_give_up, gcflip_heap_step_roots, gcflip_heap_step_scan,
     gcflip_heap_useful,
 };
+pub use words::{gcflip_words_read, gcflip_words_write};
 pub use work::{GcflipWork, gcflip_heap_work, gcflip_heap_work_sized};

@@ -8,5 +8,5 @@ abbrev pub invariant-loop-k : goal.invariant-loop-k
 invariant-loop-k l = record {
   so_far : Logs l.fn.collection l.m (fields_from l.object.0 l.first l.k) l.collection;
   logs : length l.collection.logs ≡ length l.fn.collection.logs;
-  room : l.count ≤ spare_of l.collection l.m + l.k;
+  room : spare_of l.fn.collection l.m ≤ spare_of l.collection l.m + l.k;
 }

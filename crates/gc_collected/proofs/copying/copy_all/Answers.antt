@@ -37,7 +37,7 @@ belonged : (c : After-note_row) → BelongsTo c.args.heap.now c.in-Some.collecti
 belonged c = subst (BelongsIfOpen c.args.heap.now) c.in-Some.is c.requires.belongs
 
 belongs_now : (c : After-note_row) → BelongsTo c.copy_each.new.heap c.note_row.new.collection
-belongs_now c = together_fits 0 c.args.heap.now c.copy_each.new.heap (Some c.in-Some.collection) (Some c.note_row.new.collection) c.args.m _ _ c.requires.mutator c.copy_each.ensures.performs c.note_row.ensures (belonged c)
+belongs_now c = together_fits 0 c.args.heap.now c.copy_each.new.heap (Some c.in-Some.collection) (Some c.note_row.new.collection) c.args.m _ _ c.requires.mutator c.copy_each.ensures.performs c.note_row.ensures.logs (belonged c)
 
 pub are_shown-requires : goal.are_shown-requires
 are_shown-requires c = belongs_now (goal.at.are_shown-requires c).After-note_row
@@ -45,7 +45,7 @@ are_shown-requires c = belongs_now (goal.at.are_shown-requires c).After-note_row
 pub returns-clause-step : goal.returns-clause-step
 returns-clause-step c =
     subst (λ (o : Option CollectionWords). copy_step (state_in c.args.heap.now o) c.args.m c.args.d c.args.to c.args.s c.args.from c.args.t c.args.count ≡ state_in c.copy_each.new.heap (Some c.note_row.new.collection)) (sym c.in-Some.is)
-    (copied_state c.args.heap.now c.copy_each.new.heap (Some c.in-Some.collection) (Some c.note_row.new.collection) c.args.m c.unwrap-object.result.0 c.args.to c.args.from c.args.count c.args.d c.args.s c.args.t c.space.ensures.sound c.copy_each.ensures.performs c.note_row.ensures)
+    (copied_state c.args.heap.now c.copy_each.new.heap (Some c.in-Some.collection) (Some c.note_row.new.collection) c.args.m c.unwrap-object.result.0 c.args.to c.args.from c.args.count c.args.d c.args.s c.args.t c.space.ensures.sound c.copy_each.ensures.performs c.note_row.ensures.logs)
 
 pub returns-clause-fits : goal.returns-clause-fits
 returns-clause-fits c = λ epoch fits. belongs_now (goal.at.returns-clause-fits c).After-note_row
@@ -57,7 +57,7 @@ returns-clause-follows c =
     let count = c.from.ensures in
     subst (λ (o : Option CollectionWords). Follows (state_in c.args.heap.now o) c.args.watch.now → Follows (state_in c.copy_each.new.heap (Some c.note_row.new.collection)) c.written_row.new.self) (sym c.in-Some.is)
     (copies_told c.args.heap.now c.copy_each.new.heap c.in-Some.collection c.note_row.new.collection c.args.m c.unwrap-object.result.0 c.args.to c.args.from c.args.count c.args.d c.args.s c.args.t c.words.result.now c.args.watch.now c.written_row.new.self c.space.ensures.sound (belonged (goal.at.returns-clause-follows c).After-note_row)
-    c.requires.mutator c.copy_each.ensures.performs c.note_row.ensures (subst (λ (o : Option CollectionWords). IfSome (state_in c.args.heap.now o).collection (IsOpened (state_in c.args.heap.now o))) c.in-Some.is c.are_sound_in.ensures) c.are_shown.ensures.opened c.are_shown.ensures.heap
+    c.requires.mutator c.copy_each.ensures.performs c.note_row.ensures.logs (subst (λ (o : Option CollectionWords). IfSome (state_in c.args.heap.now o).collection (IsOpened (state_in c.args.heap.now o))) c.in-Some.is c.are_sound_in.ensures) c.are_shown.ensures.opened c.are_shown.ensures.heap
     (subst (AreOld (open_state c.copy_each.new.heap c.note_row.new.collection)) (sym words) c.are_shown.ensures.old)
     (subst (λ n. IsFalse c.args.watch.now.lost → CanWriteRow c.words.result.now c.unwrap-object.result.0 c.args.to n c.args.watch.now → IsFalse c.written_row.new.self.lost) count told.stays)
     (subst (λ n. IsFalse c.written_row.new.self.lost → WroteRow c.unwrap-object.result.0 c.args.to n c.args.watch.now c.written_row.new.self) count told.wrote))

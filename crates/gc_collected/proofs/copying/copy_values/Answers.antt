@@ -69,7 +69,7 @@ belonged c = subst (BelongsIfOpen c.args.heap.now) c.in-Some.is c.requires.belon
 belongs_now : (c : After-note_row) → BelongsTo c.copy_each_value.new.heap c.note_row.new.collection
 belongs_now c =
     let one = (goal.at.are_shown-requires c).After-copy_each_value in
-    row_fits c.args.heap.now c.copy_each_value.new.heap c.args.d c.unwrap.result.0.0 c.args.to c.args.count (entries one) (row one) 0 (Some c.in-Some.collection) (Some c.note_row.new.collection) c.args.m c.requires.mutator c.note_row.ensures (belonged c)
+    row_fits c.args.heap.now c.copy_each_value.new.heap c.args.d c.unwrap.result.0.0 c.args.to c.args.count (entries one) (row one) 0 (Some c.in-Some.collection) (Some c.note_row.new.collection) c.args.m c.requires.mutator c.note_row.ensures.logs (belonged c)
 
 pub are_shown-requires : goal.are_shown-requires
 are_shown-requires c = belongs_now (goal.at.are_shown-requires c).After-note_row
@@ -77,7 +77,7 @@ are_shown-requires c = belongs_now (goal.at.are_shown-requires c).After-note_row
 pub returns-clause-step : goal.returns-clause-step
 returns-clause-step c =
     subst (λ (o : Option CollectionWords). values_step (state_in c.args.heap.now o) c.args.m c.args.d c.args.to c.args.s c.args.from c.args.count ≡ state_in c.copy_each_value.new.heap (Some c.note_row.new.collection)) (sym c.in-Some.is)
-    (stepped (goal.at.returns-clause-step c).After-copy_each_value (Some c.in-Some.collection) (Some c.note_row.new.collection) c.note_row.ensures)
+    (stepped (goal.at.returns-clause-step c).After-copy_each_value (Some c.in-Some.collection) (Some c.note_row.new.collection) c.note_row.ensures.logs)
 
 pub returns-clause-fits : goal.returns-clause-fits
 returns-clause-fits c = λ epoch fits. belongs_now (goal.at.returns-clause-fits c).After-note_row
@@ -96,7 +96,7 @@ returns-clause-follows c =
     let count = c.from.ensures in
     subst (λ (o : Option CollectionWords). Follows (state_in c.args.heap.now o) c.args.watch.now → Follows (state_in c.copy_each_value.new.heap (Some c.note_row.new.collection)) c.written_row.new.self) (sym c.in-Some.is)
     (row_told c.args.heap.now c.copy_each_value.new.heap c.in-Some.collection c.note_row.new.collection c.args.m a c.args.to c.args.count c.words.result.now c.args.watch.now c.written_row.new.self (belonged (goal.at.returns-clause-follows c).After-note_row)
-    c.requires.mutator (row_ran c.args.heap.now c.copy_each_value.new.heap c.args.d a c.args.to c.args.count (entries one) (row one) (Some c.in-Some.collection) (Some c.note_row.new.collection) c.args.m c.note_row.ensures) c.note_row.ensures
+    c.requires.mutator (row_ran c.args.heap.now c.copy_each_value.new.heap c.args.d a c.args.to c.args.count (entries one) (row one) (Some c.in-Some.collection) (Some c.note_row.new.collection) c.args.m c.note_row.ensures.logs) c.note_row.ensures.logs
     (subst (λ (o : Option CollectionWords). IfSome (state_in c.args.heap.now o).collection (IsOpened (state_in c.args.heap.now o))) c.in-Some.is c.are_sound_in.ensures) c.are_shown.ensures.opened c.are_shown.ensures.heap
     (subst (AreOld (open_state c.copy_each_value.new.heap c.note_row.new.collection)) (sym words) c.are_shown.ensures.old)
     (subst (λ n. IsFalse c.args.watch.now.lost → CanWriteRow c.words.result.now a c.args.to n c.args.watch.now → IsFalse c.written_row.new.self.lost) count told.stays)

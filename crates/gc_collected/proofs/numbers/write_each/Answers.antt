@@ -62,8 +62,8 @@ loop-k-preserved g c =
       sources = sources_kept heap put.new.self c.args.s (c.args.first + c.loop-k.k) c.args.object.0 (Num c.number-number.result) names puts target c.requires.apart ∙ c.loop-k.invariant.sources;
     }
 
-pub returns : goal.returns
-returns g c =
+pub returns-clause-puts : goal.returns-clause-puts
+returns-clause-puts g c =
     let sources = sources_at (graph_in c.args.heap.now) (g.R.NumberRow.names c.args.row.now) in
     let count = c.count-k-end.ensures sources c.requires.row in
-    record { puts = c.loop-k.invariant.rest c.loop-k.heap (no_number c.loop-k.heap c.args.s c.args.first c.loop-k.k (g.R.NumberRow.numbers c.args.row.now sources) (omega (arith, c.loop-k-test.false, count))) }
+    c.loop-k.invariant.rest c.loop-k.heap (no_number c.loop-k.heap c.args.s c.args.first c.loop-k.k (g.R.NumberRow.numbers c.args.row.now sources) (omega (arith, c.loop-k-test.false, count)))

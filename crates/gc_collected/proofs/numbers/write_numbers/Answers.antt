@@ -1,15 +1,15 @@
 -- The heap writes alone; the fields are logged together, and then the monitor is told of all of them.
-use Rattle.std.proofs.Common.{◌≡◌, ℕ, List, Some, None, length, ap, subst, sym, ◌∙◌, arith}
+use Rattle.std.proofs.Common.{◌≡◌, ◌+◌, ◌≤◌, ℕ, List, Some, None, length, ap, subst, sym, ◌∙◌, arith}
 use Rattle.std.specs.Prelude.{IfSome, IsFalse, Option}
 use Rattle.std.proofs.lemmas.List.{length-map}
 use Rattle.gc_words.specs.Word.{value_of}
 use Rattle.gc_heap.specs.Heap.{graph_in}
 use Rattle.gc_model.specs.Belonging.{IsOpened}
-use Rattle.gc_copy.specs.Words.{CollectionWords, BelongsTo, open_state}
+use Rattle.gc_copy.specs.Words.{CollectionWords, BelongsTo, open_state, spare_of}
 use Rattle.gc_monitor.specs.Claims.{CanWriteRow}
 use Rattle.gc_monitor.specs.Events.{WroteRow}
 use Rattle.gc_collected.specs.Internal.Beside.{AreOld}
-use Rattle.gc_collected.specs.Internal.CollectedHeap.{BelongsIfOpen, Fits, state_in}
+use Rattle.gc_collected.specs.Internal.CollectedHeap.{BelongsIfOpen, Fits, HasSpare, state_in}
 use Rattle.gc_collected.specs.Internal.Follows.{Follows}
 use Rattle.gc_collected.specs.Internal.Numbered.{numbered, numbers_given, sources_at}
 use Rattle.gc_collected.specs.Internal.Together.{LogsIfOpen, fields_from}
@@ -61,6 +61,12 @@ returns-in_default-clause-follows g c =
     subst (λ (o : Option CollectionWords). Follows (state_in c.args.heap.now o) c.args.watch.now → Follows (state_in c.write_each.new.heap o) c.args.watch.now) (sym c.in_default.is)
     (row_follows c.args.heap.now c.write_each.new.heap c.args.s c.args.object.0 c.args.first (length (numbers g one)) (numbered c.args.first (numbers g one)) (row g one) c.args.m c.args.watch.now)
 
+pub returns-in_default-clause-belongs : goal.returns-in_default-clause-belongs
+returns-in_default-clause-belongs g c = subst (BelongsIfOpen c.write_each.new.heap) (sym c.in_default.is) tt
+
+pub returns-in_default-clause-spare : goal.returns-in_default-clause-spare
+returns-in_default-clause-spare g c = λ more room. subst (λ (o : Option CollectionWords). HasSpare o c.args.m more) (sym c.in_default.is) tt
+
 -- ---- while one is open
 
 belonged : (g : Over) (c : After-note_row g) → BelongsTo c.args.heap.now c.in-Some.collection
@@ -69,7 +75,7 @@ belonged g c = subst (BelongsIfOpen c.args.heap.now) c.in-Some.is c.requires.bel
 logged : (g : Over) (c : After-note_row g) → LogsIfOpen (Some c.in-Some.collection) c.args.m (fields_from c.args.object.0 c.args.first (length (numbers g (goal.at.are_shown-requires g c).After-write_each))) (Some c.note_row.new.collection)
 logged g c =
     let sources = sources_at (graph_in c.args.heap.now) (g.R.NumberRow.names c.args.row.now) in
-    subst (λ n. LogsIfOpen (Some c.in-Some.collection) c.args.m (fields_from c.args.object.0 c.args.first n) (Some c.note_row.new.collection)) (c.count-count.ensures sources c.requires.row) c.note_row.ensures
+    subst (λ n. LogsIfOpen (Some c.in-Some.collection) c.args.m (fields_from c.args.object.0 c.args.first n) (Some c.note_row.new.collection)) (c.count-count.ensures sources c.requires.row) c.note_row.ensures.logs
 
 belongs_now : (g : Over) (c : After-note_row g) → BelongsTo c.write_each.new.heap c.note_row.new.collection
 belongs_now g c =
@@ -108,3 +114,13 @@ returns-clause-follows g c =
     (subst (AreOld (open_state c.write_each.new.heap c.note_row.new.collection)) (sym words) c.are_shown.ensures.old)
     (subst (λ k. IsFalse c.args.watch.now.lost → CanWriteRow c.words.result.now a c.args.first k c.args.watch.now → IsFalse c.written_row.new.self.lost) count told.stays)
     (subst (λ k. IsFalse c.written_row.new.self.lost → WroteRow a c.args.first k c.args.watch.now c.written_row.new.self) count told.wrote))
+
+pub returns-clause-belongs : goal.returns-clause-belongs
+returns-clause-belongs g c = belongs_now g (goal.at.returns-clause-belongs g c).After-note_row
+
+pub returns-clause-spare : goal.returns-clause-spare
+returns-clause-spare g c = λ more room.
+    let n = length (numbers g (goal.at.returns-clause-spare g c).After-write_each) in
+    let count = c.count-count.ensures (sources_at (graph_in c.args.heap.now) (g.R.NumberRow.names c.args.row.now)) c.requires.row in
+    let had : n + more ≤ spare_of c.in-Some.collection c.args.m = subst (λ (o : Option CollectionWords). HasSpare o c.args.m (n + more)) c.in-Some.is room in
+    omega (arith, c.note_row.ensures.spare, count, had)
