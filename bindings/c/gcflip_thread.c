@@ -31,7 +31,7 @@
 /* The tries to flip of one collection after which the collector performs all steps that are left, so that each collection ends. */
 #define MOST_TRIES 64u
 
-/* The steps for which one safepoint waits at most, and the time in nanoseconds, while the mutator has an eighth of the room to spare. */
+/* The steps for which one safepoint waits at most, and the time in nanoseconds, while the mutator has a sixteenth of the room to spare. */
 #define MOST_STEPS_WAITED 2048u
 #define MOST_TIME_WAITED 200000u
 
@@ -175,8 +175,8 @@ static bool takes_log(gcflip_thread *thread)
     if (!stops(thread)) {
         return false;
     }
-    if (gcflip_beside_take(&thread->collector) != GCFLIP_DONE) {
-        thread->is_late = true;
+    thread->is_late = gcflip_beside_take(&thread->collector) != GCFLIP_DONE;
+    if (thread->is_late) {
         gcflip_beside_work(&thread->collector, STEPS_HELD_LATE);
         gcflip_beside_take(&thread->collector);
     }
@@ -324,7 +324,7 @@ static void rests(gcflip_thread *thread)
     thread->floor = thread->size - beginning(thread, thread->size - room(thread)) + 1;
 }
 
-/* The room that a collection leaves to the mutator after all its steps: below it, the mutator waits for the end. */
+/* The room below which the mutator waits at each safepoint, however many steps were performed. Below half of it, it waits for the end. */
 static uint32_t spare(const gcflip_thread *thread)
 {
     return thread->begun / 8;
@@ -453,7 +453,7 @@ static void falls_back(gcflip_thread *thread)
         thread->floor = floor_after(thread, thread->steps);
     }
     is_ahead = thread->has_called && free_words < thread->floor;
-    wanted = free_words > spare(thread) ? thread->steps + MOST_STEPS_WAITED : NEVER;
+    wanted = free_words > spare(thread) / 2 ? thread->steps + MOST_STEPS_WAITED : NEVER;
     thread->wanted = is_ahead ? wanted : NEVER;
     pthread_mutex_unlock(&thread->lock);
     if (!is_ahead) {

@@ -8,11 +8,11 @@
  * from the opening on. So a program that wants fewer collections sets `least` to UINT32_MAX, which takes no more memory. Each then begins once half of the
  * room is used up, or later if the mutator allocated little during the last one.
  *
- * The collector stops the mutator once to copy the objects of its roots, now and then to take its log of writes, and once more to flip. It performs at
- * most 2,048 steps at a stop, unless 64 tries to flip have failed. If the mutator allocates faster than the collector copies, its safepoints wait for
- * the collector. Such a safepoint waits for 0.2 ms at most, or until the flip once less than an eighth is left of the words that were free when the
- * collection began. Between two safepoints the program can allocate that eighth. So it finds the heap full only if it allocates more there, or if
- * live objects leave too little room. */
+ * The collector stops the mutator to copy the objects of its roots, to take its log of writes now and then, and to flip. It performs at most 2,048 steps
+ * at a stop, unless 64 tries to flip have failed. If the mutator allocates faster than the collector copies, its safepoints wait for the collector, each
+ * for 0.2 ms at most. Once less than a sixteenth of the room is left that was free when the collection began, they wait for the flip. Between two
+ * safepoints the program can allocate that sixteenth. So it finds the heap full only if it allocates more there, or if live objects leave too little
+ * room. */
 #ifndef GCFLIP_THREAD_H
 #define GCFLIP_THREAD_H
 
@@ -39,8 +39,8 @@ typedef struct gcflip_thread_counts {
 
 /* Opens a heap of `size` words, at least 1, with at most 1048576 extra roots, and starts its collector's thread: GCFLIP_DONE. Of the pace, `factor` and
  * `least` count. A collection begins where the words in use are at least `factor` hundredths of those that the last flip left, and at least `least`.
- * It also begins where half of the room that the last flip left is used up. If no safepoint waited for steps during the last
- * collection, that comes later: once so many words are free as twice those that were allocated meanwhile, or an eighth of the heap if that is more.
+ * It also begins where half of the room that the last flip left is used up. That comes later if no safepoint waited for steps
+ * during the last collection. Then the free words are down to twice those that were allocated meanwhile, or to an eighth of the heap if that is more.
  * gcflip_pace_default fits most programs. A factor below 100 or above 10000 is out of range. If an allocation or the start of the thread fails, it returns GCFLIP_NO_MEMORY. It writes NULL if it does not return GCFLIP_DONE. */
 uint32_t gcflip_thread_open(gcflip_thread **thread, uint32_t size, uint32_t extra_roots, const gcflip_pace *pace);
 
