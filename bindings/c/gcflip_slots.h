@@ -1,6 +1,6 @@
 /* Commands on slots by their numbers, which are deprecated: gcflip_heap.h has the same commands on roots by their places, which know all roots. These
- * calls go with version 0.3. Until then gcflip_heap.h includes this header, and they are proved as the others are. A program that defines
- * GCFLIP_WARN_OF_SLOTS before it includes a header is told by GCC or Clang where it makes them, and which call takes their place.
+ * calls go with version 0.3. Until then gcflip_heap.h includes this header, and they are proved as the others are. A program may define
+ * GCFLIP_WARN_OF_SLOTS before it includes a header. Then GCC or Clang tells where it makes them, and which call takes their place.
  *
  * The place of mutator m's own slot k, which is below 16, is 16 + 16 * m + k. That of the shared slot 16 + k is k.
  */
