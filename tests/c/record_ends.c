@@ -99,9 +99,11 @@ static void command_by_places(int call)
         EXPECT(gcflip_bytes_part(&heap, 0, 0, 1, 16, 0, 0) == GCFLIP_NO_OBJECT);
     if (call == 23)
         EXPECT(gcflip_bytes_write(&heap, 0, 16, 0, (const uint8_t *)"text", 4) == GCFLIP_NO_OBJECT);
+    if (call == 24)
+        EXPECT(gcflip_words_write(&heap, 0, 16, 0, &number, 1) == GCFLIP_NO_OBJECT);
 }
 
-enum { NAMING_ROOTS = 6, WITHOUT_LINES = 7, BY_PLACES = 24 };
+enum { NAMING_ROOTS = 6, WITHOUT_LINES = 7, BY_PLACES = 25 };
 
 /* Opens a heap with extra roots, and names one by each call in turn. Then it makes a reference of an address, and last it names roots by their
  * places. */
@@ -258,6 +260,7 @@ static void make_calls_without_lines(void)
     REPLIES(gcflip_bytes_join(&heap, 0, 34, 1, 34, 34), GCFLIP_MADE, false);
     REPLIES(gcflip_bytes_part(&heap, 0, 34, 1, 34, 1, 2), GCFLIP_MADE, false);
     REPLIES(gcflip_bytes_write(&heap, 0, 34, 1, (const uint8_t *)"x", 1), GCFLIP_DONE, false);
+    REPLIES(gcflip_words_write(&heap, 0, 34, 0, &number, 0), GCFLIP_DONE, false);
     REPLIES(gcflip_gather(&heap, 0, 35, 1, 32, 3), GCFLIP_MADE, false);
     REPLIES(gcflip_spread(&heap, 32, 35, 3), GCFLIP_DONE, false);
     REPLIES(gcflip_refer(&heap, 33, 1), GCFLIP_DONE, false);

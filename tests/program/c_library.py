@@ -26,7 +26,7 @@ from .harness import Outcome, addresses_numbered, difference, file_of, run, skip
 from .traces import PLAYED, trace_and_replies
 
 # Programs that end with status 0 and print nothing.
-PROGRAMS = ["answers.c", "check.c", "refused_check.c", "check_cpp.cpp", "heap.c", "extra_roots.c", "looks.c", "places.c", "rows.c", "fields.c", "bytes.c", "pace.c", "reserve.c", "refused_heap.c", "checking.c", "damaged.c", "rooms.c", "heap_cpp.cpp", "churn.c", "threads.c",
+PROGRAMS = ["answers.c", "check.c", "refused_check.c", "check_cpp.cpp", "heap.c", "extra_roots.c", "looks.c", "places.c", "rows.c", "fields.c", "bytes.c", "words.c", "pace.c", "reserve.c", "refused_heap.c", "checking.c", "damaged.c", "rooms.c", "heap_cpp.cpp", "churn.c", "threads.c",
             "images.c", "explanations.c", "flipped_bits.c", "adapters.c", "nursery.c", "self_tests.c", "herbpond.c",
             "herbpond_weak.c", "herbpond_arrays.c", "herbpond_cpp.cpp"]
 
@@ -247,7 +247,7 @@ def recording_that_ends(program, folder):
     said += b"".join(b"gcflip_record.h: the recording ends here: a trace has no %s by places\n" % name for name in (b"new", b"set_number", b"copy", b"get", b"put", b"same", b"look", b"set_nil", b"peek", b"put_number",
                                                                                                                             b"put_nil", b"new_raw", b"new_pair", b"new_from", b"gather", b"spread", b"new_with", b"put_sure", b"fill",
                                                                                                                             b"copy_fields", b"new_bytes", b"bytes_join", b"bytes_part",
-                                                                                                                            b"bytes_write"))
+                                                                                                                            b"bytes_write", b"words_write"))
     said += b"gcflip_record.h: the recording ends here: a trace has no extra root 3\n"
     yield "record_ends.c", why or difference(done([path, record]), Outcome(stderr=said))
     yield "a recording that ended is played", difference(run(program, ["play", record]), Outcome(b"made\nbegun\ndropped\n"))
