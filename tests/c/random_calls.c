@@ -353,6 +353,34 @@ static void address(void)
     print_address("address", answer, found);
 }
 
+/* Writes the numbers from the fourth on over the words of a vector. */
+static uint32_t place_write_words(size_t read)
+{
+    static uint64_t words[MOST];
+    for (size_t k = 3; k < read; k++)
+        words[k - 3] = a[k];
+    return gcflip_words_write(&heap, (uint32_t)a[0], (uint32_t)a[1], (uint32_t)a[2], words, read - 3);
+}
+
+/* Prints all words of a vector. */
+static void place_words(uint32_t s)
+{
+    static uint64_t words[GCFLIP_MOST_WORDS];
+    gcflip_view view = {KEPT_32, KEPT_32, KEPT};
+    const uint32_t looked = gcflip_look(&heap, s, &view);
+    const uint32_t count = looked == GCFLIP_RAW_OBJECT ? view.count - (view.count + 63) / 64 : 0;
+    const uint32_t answer = gcflip_words_read(&heap, s, 0, words, count);
+    if (answer != GCFLIP_DONE) {
+        printf("%s\n", reply(answer));
+        return;
+    }
+    EXPECT(gcflip_words_read(&heap, s, 0, words, count + 1) == GCFLIP_NO_FIELD);
+    printf("words");
+    for (uint32_t k = 0; k < count; k++)
+        printf(" %llu", (unsigned long long)words[k]);
+    printf("\n");
+}
+
 #ifndef BASIC
 static void object_at(uint32_t address)
 {
@@ -483,6 +511,7 @@ static uint32_t by_places(const char *name, size_t read)
     if (IS("place_put")) return gcflip_put(&heap, d, s, i, (uint32_t)a[3]);
     if (IS("place_put_number")) return gcflip_put_number(&heap, d, s, i, a[3]);
     if (IS("place_put_nil")) return gcflip_put_nil(&heap, d, s, i);
+    if (IS("place_write_words")) return place_write_words(read);
 #ifndef BASIC
     if (IS("place_refer")) return gcflip_refer(&heap, d, s);
     if (IS("place_new_bytes")) return place_new_bytes(read);
@@ -536,6 +565,7 @@ static void perform(const char *name, size_t read)
     else if (IS("place_peek")) place_peek((uint32_t)a[0], (uint32_t)a[1]);
     else if (IS("room")) printf("room %u\n", gcflip_room(&heap));
     else if (IS("place_get")) place_get((uint32_t)a[0], (uint32_t)a[1], (uint32_t)a[2]);
+    else if (IS("place_words")) place_words((uint32_t)a[0]);
 #ifndef BASIC
     else if (IS("place_address")) place_address((uint32_t)a[0]);
     else if (IS("place_text")) place_text((uint32_t)a[0]);

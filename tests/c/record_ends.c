@@ -52,7 +52,7 @@ static void call_with_spares(int call)
 {
     static const gcflip_field sources[] = {{GCFLIP_FIELD_ROOT, 16}, {GCFLIP_FIELD_NUMBER, 7}};
     static const uint32_t places[] = {16, 32};
-    uint64_t number;
+    uint64_t number = UINT64_MAX;
     if (call == 0)
         EXPECT(gcflip_put_number(&heap, 0, RAW, 0, 5) == GCFLIP_DONE);
     if (call == 1)
@@ -91,6 +91,8 @@ static void call_with_spares(int call)
         EXPECT(gcflip_gather(&heap, 0, 0, 1, 31, 2) == GCFLIP_MADE);
     if (call == 18)
         EXPECT(gcflip_spread(&heap, 32, OBJECT, 1) == GCFLIP_DONE);
+    if (call == 19)
+        EXPECT(gcflip_words_write(&heap, 0, RAW, 0, &number, 1) == GCFLIP_DONE);
 }
 
 /* Performs one of the calls on roots that a trace has not. */
@@ -128,7 +130,7 @@ static void call_beyond(int call)
         EXPECT(gcflip_gather(&heap, 0, 0, 1, FAR, 1) == GCFLIP_MADE);
 }
 
-enum { WITH_SPARES = 19, BEYOND = 12 };
+enum { WITH_SPARES = 20, BEYOND = 12 };
 
 /* Opens heaps with extra roots, and ends their recordings in each way. Lines that a call wrote before are the last ones. */
 static void end_recordings(void)
@@ -276,6 +278,8 @@ static void make_calls_by_places(bool is_recorded)
     REPLIES(gcflip_bytes_join(&heap, 0, 34, 1, 34, 34), GCFLIP_MADE, is_recorded);
     REPLIES(gcflip_bytes_part(&heap, 0, 34, 1, 34, 1, 2), GCFLIP_MADE, is_recorded);
     REPLIES(gcflip_bytes_write(&heap, 0, 34, 1, (const uint8_t *)"x", 1), GCFLIP_DONE, is_recorded);
+    REPLIES(gcflip_new_raw(&heap, 33, 1, 2), GCFLIP_MADE, is_recorded);
+    REPLIES(gcflip_words_write(&heap, 0, 33, 0, &number, 1), GCFLIP_DONE, is_recorded);
     REPLIES(gcflip_gather(&heap, 0, 35, 1, 32, 3), GCFLIP_MADE, is_recorded);
     REPLIES(gcflip_spread(&heap, 32, 35, 3), GCFLIP_DONE, is_recorded);
     REPLIES(gcflip_safepoint(&heap, &pace), GCFLIP_DONE, false); /* nothing is due */

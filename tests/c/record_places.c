@@ -123,7 +123,7 @@ static uint32_t frame(int call)
 static uint32_t perform(uint32_t call)
 {
     uint8_t bytes[40];
-    uint64_t number = 0;
+    uint64_t number = 0, words[] = {state, state * 0x9e3779b97f4a7c15u};
     uint32_t from = below(EXTRA);
     for (size_t i = 0; i < sizeof bytes; i++)
         bytes[i] = (uint8_t)below(256);
@@ -186,12 +186,14 @@ static uint32_t perform(uint32_t call)
         return gcflip_heap_get(&heap, any_mutator(), any_slot(), any_slot(), (uint16_t)length(), &number);
     case 29:
         return gcflip_heap_put_number(&heap, any_mutator(), any_slot(), (uint16_t)length(), 15, state >> 1);
+    case 30:
+        return gcflip_words_write(&heap, any_mutator(), any_root(), below(2), words, below(3));
     default:
         return work();
     }
 }
 
-enum { KINDS = 32 };
+enum { KINDS = 33 };
 
 int main(int count, char **words)
 {

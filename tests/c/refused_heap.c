@@ -124,6 +124,11 @@ static uint32_t new_bytes(void) { return gcflip_new_bytes(&heap, 0, 17, 1, (cons
 static uint32_t join(void) { return gcflip_bytes_join(&heap, 0, 17, 1, 19, 19); }
 static uint32_t part(void) { return gcflip_bytes_part(&heap, 0, 17, 1, 19, 1, 8); }
 static uint32_t write_bytes(void) { return gcflip_bytes_write(&heap, 0, 19, 3, (const uint8_t *)"bytes over others", 17); }
+static uint32_t write_words(void)
+{
+    static const uint64_t words[39] = {1, UINT64_MAX};
+    return gcflip_words_write(&heap, 0, 18, 0, words, 39);
+}
 static uint32_t fill(void) { return gcflip_fill(&heap, 0, 18, 0, 40, 17); }
 static uint32_t copy_fields_at(void) { return gcflip_copy_fields(&heap, 0, 18, 0, 18, 20, 20); }
 static uint32_t pair_at(void) { return gcflip_new_pair(&heap, 0, 17, 1, 16, 16); }
@@ -305,6 +310,7 @@ static void command_by_places(void)
     EXPECT(gcflip_bytes_length(&heap, 1, &length) == GCFLIP_DONE && length == 0);
     EXPECT(gcflip_bytes_read(&heap, 1, 0, &byte, 0) == GCFLIP_DONE && gcflip_bytes_same(&heap, 1, 1) == GCFLIP_SAME);
     EXPECT(gcflip_bytes_compare(&heap, 1, 1, &order) == GCFLIP_DONE && order == 0);
+    EXPECT(gcflip_words_read(&heap, 1, 0, &number, 0) == GCFLIP_DONE);
     EXPECT(gcflip_set_nil(&heap, 1) == GCFLIP_DONE);
     EXPECT(gcflip_get(&heap, 0, extra, 0, &number) == GCFLIP_NIL);
     EXPECT(gcflip_peek(&heap, extra, 0, &view) == GCFLIP_NIL);
@@ -486,6 +492,8 @@ static void allocations(int tables, int flipping)
     EXPECT(failures(set_up_text_open, part) == 1);
     EXPECT(failures(set_up_text, write_bytes) == 0);
     EXPECT(failures(set_up_text_open, write_bytes) == 1);
+    EXPECT(failures(set_up_raw, write_words) == 0);
+    EXPECT(failures(set_up_raw_open, write_words) == 1);
     EXPECT(failures(set_up_fill, fill) == 0);
     EXPECT(failures(set_up_fill_open, fill) == 1);
     EXPECT(failures(set_up_raw, copy_fields_at) == 0);

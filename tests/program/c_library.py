@@ -26,7 +26,7 @@ from .harness import Outcome, addresses_numbered, difference, file_of, run, skip
 from .traces import PLAYED, trace_and_replies
 
 # Programs that end with status 0 and print nothing.
-PROGRAMS = ["answers.c", "check.c", "refused_check.c", "check_cpp.cpp", "heap.c", "extra_roots.c", "looks.c", "places.c", "rows.c", "fields.c", "bytes.c", "pace.c", "reserve.c", "refused_heap.c", "checking.c", "damaged.c", "rooms.c", "heap_cpp.cpp", "churn.c", "threads.c",
+PROGRAMS = ["answers.c", "check.c", "refused_check.c", "check_cpp.cpp", "heap.c", "extra_roots.c", "looks.c", "places.c", "rows.c", "fields.c", "bytes.c", "words.c", "pace.c", "reserve.c", "refused_heap.c", "checking.c", "damaged.c", "rooms.c", "heap_cpp.cpp", "churn.c", "threads.c",
             "images.c", "explanations.c", "flipped_bits.c", "adapters.c", "nursery.c", "self_tests.c", "herbpond.c",
             "herbpond_weak.c", "herbpond_arrays.c", "herbpond_cpp.cpp"]
 
@@ -267,7 +267,7 @@ def recording_that_ends(program, folder):
     path, why = built.build(["gcc", *SANITIZERS], "record_ends.c", built.archive())
     said = b"gcflip_record.h: the recording ends here: a trace has no size of 1048577 words\n"
     said += said
-    needed = 2 * [b"a number"] + [b"nil", b"a value"] + 4 * [b"bytes"] + 11 * [b"a root of another mutator"]
+    needed = 2 * [b"a number"] + [b"nil", b"a value"] + 4 * [b"bytes"] + 11 * [b"a root of another mutator"] + [b"words"]
     said += b"".join(b"gcflip_record.h: the recording ends here: gcflip_trace_spare gives no slots for %s\n" % purpose for purpose in needed)
     said += 12 * b"gcflip_record.h: the recording ends here: a trace has no root at place 272\n"
     said += 2 * b"gcflip_record.h: the recording ends here: a trace has no reference by the address 1\n"

@@ -12,7 +12,7 @@ import re
 
 from .c_builds import SANITIZERS, SOURCES, TOP, WARNINGS, done, has_valgrind, library, usable
 from .random import lists, played, wanted_by_c
-from .random_calls import FRAMES, FREE_LOOKS, LOOSE, PACED, PLACES
+from .random_calls import FRAMES, FREE_LOOKS, LOOSE, PACED, PLACES, VECTORS
 
 BENCH = os.path.join(TOP, "bench", "embedding")
 TABLE = os.path.join(BENCH, "commands.txt")
@@ -87,7 +87,7 @@ def plain_c(_program, folder):
     made = done([*words, "-DBASIC", os.path.join(SOURCES, "random_calls.c"), os.path.join(BENCH, "plain_c.c")])
     why = None if made.status == 0 else "not built: %s" % made.stderr.decode()
     # Its extra roots have no places, and looks at them are free.
-    for part, more in [("plain C", PLACES), ("plain C with extra roots", {**LOOSE, **FRAMES, **FREE_LOOKS})]:
+    for part, more in [("plain C", {**PLACES, **VECTORS}), ("plain C with extra roots", {**LOOSE, **FRAMES, **FREE_LOOKS})]:
         for name, calls in lists(part, PACED, more):
             yield name, why or played([driver], calls, wanted_by_c(calls))
 

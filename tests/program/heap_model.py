@@ -355,6 +355,34 @@ class Model:
         text = self.text(s)
         return "no object" if text is None else " ".join(["text", *map(str, text)])
 
+    def vector(self, s):
+        """Returns the words of the vector of the root at this place, or None if it refers to no raw object."""
+        at = self.target(0, Place(s))
+        if at is None or not self.space.is_raw(at):
+            return None
+        fields = self.space.fields(at)
+        count = len(fields) - (len(fields) + 63) // 64
+        return [fields[i] + ((fields[count + i // 63] >> i % 63 & 1) << 63) for i in range(count)]
+
+    def place_write_words(self, m, s, at, *written):
+        vector = self.vector(s)
+        if vector is None or at + len(written) > len(vector):
+            return "no object" if vector is None else "no field"
+        changed = range(at, at + len(written))
+        for i in changed:
+            assert self.write(m, Place(s), i, 2 * (written[i - at] % (1 << 63)) + 1) == "done"
+        for field in sorted({i // 63 for i in changed}):
+            tops = self.space.fields(self.target(0, Place(s)))[len(vector) + field]
+            for i in changed:
+                if i // 63 == field:
+                    tops = tops & ~(1 << i % 63) | written[i - at] >> 63 << i % 63
+            assert self.write(m, Place(s), len(vector) + field, 2 * tops + 1) == "done"
+        return "done"
+
+    def place_words(self, s):
+        vector = self.vector(s)
+        return "no object" if vector is None else " ".join(["words", *map(str, vector)])
+
     def place_order(self, s, t):
         one, other = self.text(s), self.text(t)
         return "no object" if one is None or other is None else "order %d" % ((one > other) - (one < other))

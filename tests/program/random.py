@@ -15,7 +15,7 @@ import time
 from .c_builds import SANITIZERS, SOURCES, WARNINGS, done, library
 from .harness import Outcome, difference, file_of, run
 from .python import TESTS, Python, content_of
-from .random_calls import FRAMES, LOOSE, MOVES, PACED, PLACES, RESERVES, TEXTS, random_calls, traces_of
+from .random_calls import FRAMES, LOOSE, MOVES, PACED, PLACES, RESERVES, TEXTS, VECTORS, random_calls, traces_of
 from .rust import prepared
 
 STARTED = int(time.time())
@@ -82,7 +82,7 @@ def c_calls(_program, folder):
     if built is None:
         return
     driver, why = built_driver(built, "plain", [])
-    for name, calls in lists("C", PACED, RESERVES, LOOSE, FRAMES, PLACES, TEXTS, MOVES):
+    for name, calls in lists("C", PACED, RESERVES, LOOSE, FRAMES, PLACES, TEXTS, VECTORS, MOVES):
         yield name, why or played([driver], calls, wanted_by_c(calls))
 
 
@@ -110,7 +110,7 @@ def python_calls(_program, folder):
         return
     python = Python(built, folder)
     yield "the Python package is built", python.why
-    for name, calls in lists("Python", PACED, LOOSE, FRAMES, PLACES, TEXTS, MOVES):
+    for name, calls in lists("Python", PACED, LOOSE, FRAMES, PLACES, TEXTS, VECTORS, MOVES):
         yield name, played([sys.executable, os.path.join(TESTS, "random_calls.py")], calls, calls.printed, env=python.environment)
 
 

@@ -22,6 +22,7 @@ PLACES = {"place_new": 4, "place_raw": 2, "place_pair": 3, "place_new_from": 3, 
           "place_put_sure": 3, "place_fill": 4, "place_copy_fields": 4,
           "place_same": 3, "place_look": 4, "room": 2}
 TEXTS = {"place_new_bytes": 4, "place_join": 4, "place_part": 4, "place_write": 8, "place_text": 4, "place_order": 3}
+VECTORS = {"place_write_words": 8, "place_words": 4}
 MOVES = {"moved": 4, "refer": 4, "place_refer": 4, "place_address": 2, "object_at": 3, "field_at": 4}
 # Not a call: a heap to which looks at extra roots are free, as they are to the one in plain C. A step takes as many as it needs, and none is told.
 FREE_LOOKS = {"free_looks": 0}
@@ -604,6 +605,24 @@ class Calls:
         s = self.text_place()
         self.add_by_places("place_text", [s], s)
 
+    def vector_place(self):
+        """Returns a place, mostly of a root with a vector that has words."""
+        vectors = [p for p in range(len(self.model.roots)) if self.model.vector(p)]
+        return self.chance.choice(vectors) if vectors and self.chance.random() < 0.9 else self.place()
+
+    def add_place_write_words(self):
+        s = self.vector_place()
+        length = len((self.model.vector(s) if s < len(self.model.roots) else None) or [])
+        at = self.chance.choice([0, length, self.chance.randrange(length + 1), self.chance.randrange(length + 1), (1 << 32) - 1])
+        left = max(0, length - at)
+        count = self.chance.choice([0, left, left + 1, self.chance.randrange(left + 1), self.chance.randrange(left + 1)])
+        numbers = (0, 1, (1 << 63) - 1, 1 << 63, (1 << 64) - 1, self.chance.randrange(1 << 64))
+        self.add_by_places("place_write_words", [s], self.mutator(), s, at, *(self.chance.choice(numbers) for _ in range(count)))
+
+    def add_place_words(self):
+        s = self.vector_place()
+        self.add_by_places("place_words", [s], s)
+
     def add_place_order(self):
         s, t = self.text_place(), self.text_place()
         self.add_by_places("place_order", [s, t], s, t)
@@ -746,6 +765,8 @@ class Calls:
                       ["place_join", beyond, 0, 0, 0, 0], ["place_join", 0, 0, wide, 0, 0],
                       ["place_part", beyond, 0, 0, 0, 0, 0], ["place_part", 0, 0, wide, 0, 0, 0],
                       ["place_write", beyond, 0, 0], ["place_write", wide, 0, 0, 5]]
+        if "place_write_words" in self.weights:
+            sized += [["place_write_words", beyond, 0, 0], ["place_write_words", self.chance.choice([256, 1 << 31, (1 << 32) - 1]), 0, 0, 5]]
         if "root_load" not in self.weights or self.model.extra_roots == 0:
             return sized
         return sized + [["root_load", beyond, 0, 0], ["root_load", 0, slot, 0], ["root_store", beyond, 0, 0], ["root_store", 0, 0, slot]]

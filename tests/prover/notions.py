@@ -45,6 +45,7 @@ PURPOSES = [("pairs inferred from two images, and paths", "gcflip_c", ["gcflip_i
             ("fields copied or filled at once", "gcflip_heap_c", ["gcflip_heap_copy_fields", "gcflip_copy_fields", "gcflip_fill"]),
             ("texts of bytes", "gcflip_heap_c", ["gcflip_new_bytes", "gcflip_bytes_join", "gcflip_bytes_part", "gcflip_bytes_length", "gcflip_bytes_read", "gcflip_bytes_write",
                                                  "gcflip_bytes_same", "gcflip_bytes_compare"]),
+            ("vectors of 64-bit words", "gcflip_heap_c", ["gcflip_words_read", "gcflip_words_write"]),
             ("objects made and filled at once", "gcflip_heap_c", ["gcflip_heap_new_pair", "gcflip_heap_new_from", "gcflip_heap_put_number", "gcflip_heap_put_nil"]),
             ("objects filled with numbers and slots mixed", "gcflip_heap_c", ["gcflip_heap_new_with", "gcflip_new_with"]),
             ("several numbers of raw objects", "gcflip_heap_c", ["gcflip_heap_raw_read", "gcflip_heap_raw_write"]),

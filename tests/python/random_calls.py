@@ -14,7 +14,8 @@ PLACED = {"place_new": "new", "place_raw": "new_raw", "place_pair": "new_pair", 
           "place_fill": "fill", "place_copy_fields": "copy_fields", "place_gather": "gather", "place_spread": "spread", "place_refer": "refer", "place_address": "address",
           "place_num": "set_number", "place_nil": "set_nil", "place_copy": "copy", "place_get": "get", "place_peek": "peek",
           "place_put": "put", "place_put_number": "put_number", "place_put_nil": "put_nil", "place_same": "is_same", "place_look": "look",
-          "place_new_bytes": "new_bytes", "place_join": "bytes_join", "place_part": "bytes_part", "place_write": "bytes_write", "place_text": "bytes_read", "place_order": "bytes_compare"}
+          "place_new_bytes": "new_bytes", "place_join": "bytes_join", "place_part": "bytes_part", "place_write": "bytes_write", "place_text": "bytes_read", "place_order": "bytes_compare",
+          "place_write_words": "words_write", "place_words": "words_read"}
 DONE = {"new": "made", "raw": "made", "cons": "made", "num": "done", "nil": "done", "move": "done", "put": "done", "put_number": "done",
         "put_nil": "done", "copy_fields": "done", "root_load": "done", "root_store": "done", "refer": "done"}
 
@@ -74,11 +75,13 @@ def by_places(heap, name, numbers):
         return "address %d" % call(*numbers)
     if name == "place_text":
         return " ".join(["text", *map(str, call(*numbers))])
+    if name == "place_words":
+        return " ".join(["words", *map(str, call(*numbers))])
     if name == "place_order":
         return "order %d" % call(*numbers)
     if name in ("place_new_bytes", "place_write"):
         numbers[3:] = [bytes(numbers[3:])]
-    if name == "place_new_from":
+    if name in ("place_new_from", "place_write_words"):
         numbers[3:] = [numbers[3:]]
     if name == "place_new_with":
         numbers[3:] = [field_sources(numbers[3:])]

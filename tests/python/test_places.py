@@ -1,4 +1,5 @@
 """Tests of the commands on roots by their places."""
+import array
 import random
 import sys
 import threading
@@ -187,6 +188,40 @@ class CommandsByPlaces(unittest.TestCase):
         self.assertEqual((heap.log_length(0), heap.log_length(1), heap.bytes_read(one, 6, 15)), (1, 5, b"in three fields"))
         heap.close()
         for call in (lambda: heap.new_bytes(0, 0, 7, b""), lambda: heap.bytes_write(0, 0, 0, b""), lambda: heap.bytes_length(0), lambda: heap.bytes_read(0), lambda: heap.bytes_same(0, 0)):
+            self.assertRaises(gcflip.Closed, call)
+
+    def test_vectors_of_words(self):
+        heap = Heap(200, mutators=2, extra_roots=3)
+        self.addCleanup(heap.close)
+        one, other, nil = 0, 50, 5
+        heap.new_raw(one, 7, 66)
+        self.assertEqual(heap.words_read(one), array.array("Q", bytes(8 * 64)))
+        doubles = array.array("d", [1.5 - k for k in range(64)])
+        words = array.array("Q", doubles.tobytes())
+        heap.words_write(1, one, 0, memoryview(doubles).cast("B").cast("Q"))
+        self.assertEqual((heap.words_read(one), array.array("d", heap.words_read(one).tobytes())), (words, doubles))
+        heap.words_write(0, one, 61, [2 ** 64 - 1, 0, 2 ** 63])
+        heap.words_write(0, one, 64, [])
+        self.assertEqual(heap.words_read(one).tolist(), [*words[:61], 2 ** 64 - 1, 0, 2 ** 63])
+        parts = [heap.words_read(one, at, count).tolist() for at, count in ((61, 2), (62, None), (64, 0), (64, None))]
+        self.assertEqual(parts, [[2 ** 64 - 1, 0], [0, 2 ** 63], [], []])
+        for call in (lambda: heap.words_read(one, 1, 64), lambda: heap.words_read(one, 65), lambda: heap.words_write(0, one, 0, [0] * 65),
+                     lambda: heap.words_write(0, one, 65, []), lambda: heap.words_write(0, one, 2 ** 32 - 1, [0])):
+            self.assertRaises(gcflip.NoField, call)
+        heap.new(other, 7, 2)
+        for call in (lambda: heap.words_read(nil), lambda: heap.words_read(other), lambda: heap.words_write(0, nil, 0, []), lambda: heap.words_write(0, other, 0, [1])):
+            self.assertRaises(gcflip.NoObject, call)
+        for call in (lambda: heap.words_read(51), lambda: heap.words_read(one, -1), lambda: heap.words_read(one, 0, 2 ** 32), lambda: heap.words_write(2, one, 0, [0]),
+                     lambda: heap.words_write(0, 51, 0, [0]), lambda: heap.words_write(0, one, -1, [0])):
+            self.assertRaises(gcflip.OutOfRange, call)
+        self.assertRaises(OverflowError, heap.words_write, 0, one, 0, [2 ** 64])
+        self.assertRaises(TypeError, heap.words_write, 0, one, 0, doubles)
+        self.assertEqual(heap.words_read(one).tolist(), [*words[:61], 2 ** 64 - 1, 0, 2 ** 63])
+        heap.begin()
+        heap.words_write(1, one, 61, words[61:])
+        self.assertEqual((heap.log_length(0), heap.log_length(1), heap.words_read(one)), (0, 5, words))
+        heap.close()
+        for call in (lambda: heap.words_read(0), lambda: heap.words_write(0, 0, 0, [])):
             self.assertRaises(gcflip.Closed, call)
 
     def test_texts_are_those_of_python(self):

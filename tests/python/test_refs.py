@@ -1,4 +1,5 @@
 """Tests of references that own a root."""
+import array
 import copy
 import gc
 import pickle
@@ -91,6 +92,25 @@ class Fields(unittest.TestCase):
         finally:
             sys.unraisablehook = before
         self.assertEqual(shown, [])
+
+
+class Vectors(unittest.TestCase):
+    """Vectors of 64-bit words."""
+
+    def test_words(self):
+        heap = Heap(200, extra_roots=4)
+        self.addCleanup(heap.close)
+        vector, pair = heap.make_raw(7, 66), heap.make(1, 2)
+        self.assertEqual(vector.words.tolist(), [0] * 64)
+        words = array.array("Q", [2 ** 64 - 1 - k for k in range(64)])
+        vector.words = words
+        self.assertEqual((vector.words, vector[0], len(vector)), (words, 2 ** 63 - 1, 66))
+        vector.words = [5]
+        self.assertEqual(vector.words[:2].tolist(), [5, 2 ** 64 - 2])
+        for act in (lambda: pair.words, lambda: setattr(pair, "words", [1]), lambda: setattr(vector, "words", 5)):
+            self.assertRaises(TypeError, act)
+        self.assertRaises(gcflip.NoField, setattr, vector, "words", [0] * 65)
+        self.assertEqual(vector.words[0], 5)
 
 
 class Texts(unittest.TestCase):

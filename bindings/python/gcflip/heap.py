@@ -635,6 +635,32 @@ class Heap(quick.Quickened):
         self._call_roots("bytes_compare", first, second, order)
         return order.value
 
+    def words_read(self, root: int, at: int = 0, count: Optional[int] = None) -> array.array[int]:
+        """Returns `count` words of the vector that the root refers to, from word `at` on, or all that follow. Each raw object is a vector of 64-bit words, 63 of
+        them in 64 fields. `array.array("d", words.tobytes())` takes them for doubles. Raises NoObject if the root refers to no raw object, and NoField if the
+        vector has fewer words."""
+        root, at = in_range((root, at), ROOTS["words_read"][:2])
+        if count is not None:
+            count, = in_range((count,), [ctypes.c_uint32])
+
+        def read() -> array.array[int]:
+            view = library.View()
+            self._made_roots("look", root, view)
+            wanted = max(0, words_in(view.count) - at) if count is None else count
+            found = _zeros(wanted)
+            self._made_roots("words_read", root, at, found.buffer_info()[0], wanted)
+            return found
+
+        return self._turn.take(read)
+
+    def words_write(self, mutator: int, root: int, at: int, words: Row) -> None:
+        """Writes these words over those of the vector that the root refers to, from word `at` on. A buffer of 64-bit words is read in place. No root changes. All
+        are written or none. While a collection is open, the mutator's log takes the fields that change. Raises NoObject if the root refers to no raw object,
+        NoField if the vector has fewer words, OverflowError for a number that has no 64 bits, and OutOfMemory while a collection is open."""
+        mutator, root, at = in_range((mutator, root, at), ROOTS["words_write"][:3])
+        row = Block(words, "Q")
+        self._turn.take(lambda: self._made_roots("words_write", mutator, root, at, row.address, row.count))
+
     def is_same(self, first: int, second: int) -> bool:
         """Returns whether both roots hold nil, equal numbers, or references to one object."""
         return self._call_roots("same", first, second) == Answer.SAME
@@ -840,6 +866,11 @@ def _record(field: FieldSource, kind: Any = SLOT) -> library.Field:
 
 def _zeros(count: int) -> array.array[int]:
     return array.array("Q", bytes(8 * count))
+
+
+def words_in(fields: int) -> int:
+    """Returns the number of 64-bit words that the fields of a raw object have: 63 for each 64 fields."""
+    return fields - (fields + 63) // 64
 
 
 class Mutator(quick.Quickened):

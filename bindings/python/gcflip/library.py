@@ -233,6 +233,8 @@ ROOTS: Dict[str, List[Any]] = {
     "bytes_write": [c_uint32, PLACE, c_uint32, c_char_p, c_size_t],
     "bytes_same": [PLACE, PLACE],
     "bytes_compare": [PLACE, PLACE, POINTER(c_int32)],
+    "words_read": [PLACE, c_uint32, c_void_p, c_size_t],
+    "words_write": [c_uint32, PLACE, c_uint32, c_void_p, c_size_t],
     "address": [PLACE, POINTER(c_uint32)],
     "moved": [c_uint32, POINTER(c_uint32)],
     "refer": [PLACE, c_uint32],

@@ -9,6 +9,9 @@ from .errors import Closed, FrameFull, Full, NoObject, OutOfMemory, OutOfRange
 from .renamed import renamed
 
 if TYPE_CHECKING:
+    import array
+
+    from .checker import Row
     from .heap import Heap, Pace, Work
 
 Content = Union[None, int, "Ref"]
@@ -94,6 +97,8 @@ class Ref:
     A text of bytes is also a sequence of them: `bytes(text)` copies them, `text + other` joins two texts, and a slice such as `text[2:5]` is a part. Both
     results are new texts of the kind of the left one, and no byte leaves the heap, unless a slice has a step. They raise what `Heap.make_bytes` raises. An
     object that is no text raises TypeError.
+
+    A raw object is also a vector of 64-bit words: `ref.words` copies them, and `ref.words = row` writes them. An object that is not raw raises TypeError.
     """
 
     __slots__ = ("heap", "_pool", "_root", "__weakref__")
@@ -154,6 +159,17 @@ class Ref:
             self.heap.put_nil(MUTATOR, self.place, field)
         else:
             self.heap.put_number(MUTATOR, self.place, field, content)
+
+    @property
+    def words(self) -> array.array[int]:
+        """The 64-bit words of a raw object, copied: 63 of 64 fields. `ref.words = row` writes them from the first one on."""
+        with vectors_alone():
+            return self.heap.words_read(self.place)
+
+    @words.setter
+    def words(self, row: Row) -> None:
+        with vectors_alone():
+            self.heap.words_write(MUTATOR, self.place, 0, row)
 
     def __bytes__(self) -> bytes:
         with texts_alone():
@@ -220,6 +236,15 @@ def texts_alone() -> Iterator[None]:
         yield
     except NoObject:
         raise TypeError("the object is no text of bytes") from None
+
+
+@contextlib.contextmanager
+def vectors_alone() -> Iterator[None]:
+    """Raises TypeError if a call finds an object that is not raw."""
+    try:
+        yield
+    except NoObject:
+        raise TypeError("the object is no vector of words") from None
 
 
 def fields_for(length: int) -> int:

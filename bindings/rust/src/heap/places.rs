@@ -306,6 +306,28 @@ impl Heap {
         replied(answer).map(|_| order.cmp(&0))
     }
 
+    /// Copies words of the vector that the root refers to, from word `at` on: as many as `words` takes. Each raw object is a vector of 64-bit words, 63 of them
+    /// in 64 fields; `f64::from_bits` makes a double of a word.
+    ///
+    /// # Errors
+    ///
+    /// Returns `NoObject` if it refers to no raw object, `NoField` if the vector has fewer words, or `OutOfRange` if there is no such root. Then nothing was
+    /// written.
+    pub fn words_read(&self, root: Place, at: u32, words: &mut [u64]) -> Result<()> {
+        replied(self.handle.words_read(root.0, at, words)).map(drop)
+    }
+
+    /// Writes these words over those of the vector that the root refers to, from word `at` on. No root changes. All are written or none. While a collection is
+    /// open, the mutator's log takes the fields that change.
+    ///
+    /// # Errors
+    ///
+    /// Returns `NoObject` if it refers to no raw object, `NoField` if the vector has fewer words, or `OutOfRange` if there is no such root or mutator; or, while
+    /// a collection is open, `NoMemory`.
+    pub fn words_write(&self, mutator: u8, root: Place, at: u32, words: &[u64]) -> Result<()> {
+        replied(self.handle.words_write(mutator.into(), root.0, at, words)).map(drop)
+    }
+
     /// Returns whether both roots hold nil, equal numbers, or references to one object.
     ///
     /// # Errors
