@@ -24,9 +24,11 @@
 #define SAFEPOINTS_OF_LOG 128u
 #define STEPS_OF_LOG 8192u
 
-/* If the mutator writes faster than the collector applies, the collector stops it after so many steps, and holds it for so many. So a collection ends. */
+/* If the mutator writes faster than the collector applies, the collector stops it after so many steps, and holds it for so many. It holds it longer after
+ * each so many stops in a row that were not enough, so that a collection ends. */
 #define STEPS_LATE 1024u
 #define STEPS_HELD_LATE 2048u
+#define STOPS_LATE 64u
 
 /* The tries to flip of one collection after which the collector performs all steps that are left, so that each collection ends. */
 #define MOST_TRIES 64u
@@ -63,7 +65,7 @@ struct gcflip_thread {
     bool is_prepared; /* the memory of the next flip is made */
     uint32_t stops;   /* those of the collection that is under way */
     uint64_t since;   /* the steps since the last of them */
-    bool is_late;     /* entries of a log were left when it stopped, or a flip was tried in vain */
+    uint32_t late;    /* the last stops in a row at which entries of an earlier log were left, or at least 1 after a try to flip in vain */
 
     _Alignas(LINE) pthread_t thread;
     pthread_mutex_t lock;
@@ -175,9 +177,11 @@ static bool takes_log(gcflip_thread *thread)
     if (!stops(thread)) {
         return false;
     }
-    thread->is_late = gcflip_beside_take(&thread->collector) != GCFLIP_DONE;
-    if (thread->is_late) {
-        gcflip_beside_work(&thread->collector, STEPS_HELD_LATE);
+    if (gcflip_beside_take(&thread->collector) == GCFLIP_DONE) {
+        thread->late = 0;
+    } else {
+        thread->late++;
+        gcflip_beside_work(&thread->collector, STEPS_HELD_LATE * (1 + thread->late / STOPS_LATE));
         gcflip_beside_take(&thread->collector);
     }
     lets_go(thread, GCFLIP_NOT_READY);
@@ -187,7 +191,7 @@ static bool takes_log(gcflip_thread *thread)
 /* Whether the collector takes the log now. */
 static bool wants_log(const gcflip_thread *thread, bool has_long_log)
 {
-    return thread->is_late ? thread->since >= STEPS_LATE : has_long_log && thread->since >= STEPS_OF_LOG;
+    return thread->late > 0 ? thread->since >= STEPS_LATE : has_long_log && thread->since >= STEPS_OF_LOG;
 }
 
 /* Tells the mutator how far the collector is. Returns false if the heap is being closed. */
@@ -245,7 +249,7 @@ static void collects(gcflip_thread *thread)
         return;
     }
     thread->stops = 0;
-    thread->is_late = false;
+    thread->late = 0;
     for (uint32_t tries = 1; answer == GCFLIP_NOT_READY; tries++) {
         if (!works_beside(thread) || !stops(thread)) {
             return;
@@ -254,7 +258,7 @@ static void collects(gcflip_thread *thread)
         if (answer == GCFLIP_NOT_READY && tries >= MOST_TRIES) {
             answer = gcflip_beside_finish(&thread->collector);
         }
-        thread->is_late = tries > 1;
+        thread->late = tries > 1;
         lets_go(thread, answer);
     }
     thread->is_prepared = answer != GCFLIP_FLIPPED;

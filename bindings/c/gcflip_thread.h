@@ -9,7 +9,7 @@
  * room is used up, or later if the mutator allocated little during the last one.
  *
  * The collector stops the mutator to copy the objects of its roots, to take its log of writes now and then, and to flip. It performs at most 2,048 steps
- * at a stop, unless 64 tries to flip have failed. If the mutator allocates faster than the collector copies, its safepoints wait for the collector, each
+ * at a stop, or more after 64 stops that were not enough. If the mutator allocates faster than the collector copies, its safepoints wait for the collector, each
  * for 0.2 ms at most. Once less than a sixteenth of the room is left that was free when the collection began, they wait for the flip. Between two
  * safepoints the program can allocate that sixteenth. So it finds the heap full only if it allocates more there, or if live objects leave too little
  * room. */
