@@ -22,6 +22,8 @@ MUTATOR = 0
 WORDS_OF_HEADER = 2
 # The collector works once for so many words, because a call of work takes longer than the making of an object.
 BLOCK = 512
+# What some references have to be, in the words of an error.
+TEXT, VECTOR = "text of bytes", "vector of words"
 
 
 class Counted:
@@ -163,16 +165,16 @@ class Ref:
     @property
     def words(self) -> array.array[int]:
         """The 64-bit words of a raw object, copied: 63 of 64 fields. `ref.words = row` writes them from the first one on."""
-        with vectors_alone():
+        with objects_alone(VECTOR):
             return self.heap.words_read(self.place)
 
     @words.setter
     def words(self, row: Row) -> None:
-        with vectors_alone():
+        with objects_alone(VECTOR):
             self.heap.words_write(MUTATOR, self.place, 0, row)
 
     def __bytes__(self) -> bytes:
-        with texts_alone():
+        with objects_alone(TEXT):
             return self.heap.bytes_read(self.place)
 
     def __add__(self, other: Ref) -> Ref:
@@ -180,7 +182,7 @@ class Ref:
             return NotImplemented
         if other._pool is not self._pool:
             raise OutOfRange("the reference is one of another heap")
-        with texts_alone():
+        with objects_alone(TEXT):
             length = self.heap.bytes_length(self.place) + self.heap.bytes_length(other.place)
 
         def join(place: int, kind: int, _length: int) -> None:
@@ -190,7 +192,7 @@ class Ref:
 
     def _part(self, chosen: slice) -> Ref:
         """Makes a text of these bytes of this one."""
-        with texts_alone():
+        with objects_alone(TEXT):
             first, end, step = chosen.indices(self.heap.bytes_length(self.place))
         count = max(0, end - first)
         if step != 1:
@@ -230,21 +232,12 @@ class Ref:
 
 
 @contextlib.contextmanager
-def texts_alone() -> Iterator[None]:
-    """Raises TypeError if a call finds an object that is no text of bytes."""
+def objects_alone(wanted: str) -> Iterator[None]:
+    """Raises TypeError if a call finds an object that is not what it wants."""
     try:
         yield
     except NoObject:
-        raise TypeError("the object is no text of bytes") from None
-
-
-@contextlib.contextmanager
-def vectors_alone() -> Iterator[None]:
-    """Raises TypeError if a call finds an object that is not raw."""
-    try:
-        yield
-    except NoObject:
-        raise TypeError("the object is no vector of words") from None
+        raise TypeError("the object is no %s" % wanted) from None
 
 
 def fields_for(length: int) -> int:
