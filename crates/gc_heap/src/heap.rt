@@ -126,6 +126,13 @@ impl Heap {
         self.space.touch();
     }
 
+    /// Tells the allocator how many of the space's words are in use, so that it can give the pages behind them back. The heap stays as it is.
+    pub fn release(&mut self)
+        ensures { self.new ≡ self.old }
+    {
+        self.space.release();
+    }
+
     /// Returns the root words: those of the shared slots first, then those of each mutator, and then the extra ones.
     pub fn roots(&self) -> &[u64]
         ensures value { result.now ≡ self.now.roots }
@@ -327,9 +334,15 @@ impl Heap {
         if !has_field(&self.space, at, header, i) {
             return Reply::NoField;
         }
-        let Some(word) = field_word(&self.space, header, self.roots[t]) else {
-            return Reply::NoNumber;
-        };
+        let word = self.roots[t];
+        // Each kind of object has a write of its own, so that no word is converted for a field that takes it as it is.
+        if header.is_raw() {
+            let Some(number) = field_word(&self.space, header, word) else {
+                return Reply::NoNumber;
+            };
+            self.space.set_field(at, i, number);
+            return Reply::Done;
+        }
         self.space.set_field(at, i, word);
         Reply::Done
     }

@@ -10,7 +10,7 @@ pub use Rattle.gc_model.proofs.Numbers.{small_corresponding}
 pub use Rattle.gc_model.proofs.Progress.{command_raises, ends_grow, ends_within, left_bounded, useful_ranges}
 pub use Rattle.gc_model.proofs.Replicas.{AreReplicas, HasReplica, IsPlace, fresh_raw, in_paired, moved_corresponds, pair, paired_in, pairs_written, place_written, placed, refers_corresponding, replica_exists, replica_in, replicas_due, replicas_end, replicas_evolve, with_written_length, with_written_pair}
 pub use Rattle.gc_model.proofs.Room.{has_room, opened_has_room}
-pub use Rattle.gc_model.proofs.RootsStay.{all_replicated, collect_stays, first_missing, flip_count, flip_nil, is_missing, is_replicated, mutate_stays, root_kept, roots_counted}
+pub use Rattle.gc_model.proofs.RootsStay.{all_replicated, collect_stays, first_missing, flip_count, flip_nil, mutate_stays, root_kept, roots_counted}
 pub use Rattle.gc_model.proofs.Runs.{Reached, event_keeps, opening_ok, root_event_keeps, root_events, root_events_keep, run_keeps}
 pub use Rattle.gc_model.proofs.Sizes.{event_within, opening_within, run_within, wider_event, wider_events, wider_step}
 pub use Rattle.gc_model.proofs.StateLaws.{command_kept, field_there, never_refused, passes_where_ready}

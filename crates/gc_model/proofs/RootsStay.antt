@@ -20,7 +20,6 @@ use Rattle.gc_model.specs.declared.step.StepReply.{StepReply}
 use Rattle.gc_model.specs.declared.step.StepReply.TheVariants.{Applied}
 use Rattle.gc_model.proofs.Lists.{get_set_other}
 use Rattle.gc_model.proofs.Replicas.{place_written}
-use Rattle.gc_model.proofs.Steps.{unreplicated_some, unreplicated_none}
 
 -- ---- replicas
 
@@ -145,10 +144,3 @@ first_missing c g to place name h = first_found c g.roots place name (λ p l. h.
 
 pub all_replicated : (c : Collection) (g : Graph) → ((p : ℕ) → p < length g.roots → HasReplicaOf c (root g p)) → root_target c g ≡ None
 all_replicated c g all = none_found c g.roots all
-
--- a value whose target has no replica
-pub is_missing : (c : Collection) (v : Value) (name : ℕ) → find (λ (name : ℕ). is_none (replica_of c name)) (names_of v) ≡ Some name → (v ≡ Ref name) × (replica_of c name ≡ None)
-is_missing c v name e = grind (arith, common_steps, unreplicated_some)
-
-pub is_replicated : (c : Collection) (v : Value) → find (λ (name : ℕ). is_none (replica_of c name)) (names_of v) ≡ None → HasReplicaOf c v
-is_replicated c v e = grind (arith, common_steps, unreplicated_none)

@@ -192,7 +192,7 @@ pub unreplicated_some : (c : Collection) (names : List ℕ) (name : ℕ) → fin
 unreplicated_some c [] name h = absurd cc
 unreplicated_some c (n ∷ names) name h = grind (arith, common_steps, none_of, unreplicated_some c names name)
 
-pub unreplicated_none : (c : Collection) (names : List ℕ) (name : ℕ) → find (λ (name : ℕ). is_none (replica_of c name)) names ≡ None → In name names → (r : Replica) × (replica_of c name ≡ Some r)
+unreplicated_none : (c : Collection) (names : List ℕ) (name : ℕ) → find (λ (name : ℕ). is_none (replica_of c name)) names ≡ None → In name names → (r : Replica) × (replica_of c name ≡ Some r)
 unreplicated_none c [] name h k = absurd k
 unreplicated_none c (n ∷ names) name h k = grind (arith, common_steps, some_of, unreplicated_none c names name)
 

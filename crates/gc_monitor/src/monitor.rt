@@ -11,7 +11,7 @@ use crate::walking::{
 };
 use crate::watcher::Watcher;
 use gc_graph::NoMemory;
-use gc_words::{Addr, Header, Value, decode_wide, field_index};
+use gc_words::{Addr, Header, Value, decode_wide, field_index, half_of};
 use std::alloc::Global;
 use std::cmp::max;
 use std::marker::Model;
@@ -303,6 +303,7 @@ impl Monitor {
     }
 
     // The link of the object at `a` leads to no replica. If one was seen, something is not as it was told.
+    #[inline(never)]
     fn lose_taken(&mut self, a: u32)
         requires found { IsFalse self.old.lost }
         ensures none { IsFalse self.new.lost → HasNoReplica self.old a × (self.new ≡ self.old) }
@@ -323,12 +324,12 @@ impl Monitor {
         if self.lost {
             return;
         }
-        if !self.is_taken(a) {
+        if !self.may_be_taken(a) {
             return;
         }
         match self.replica(old, a) {
-            None => self.lose(),
             Some(at) => self.set_written(field_index(Addr(at), i)),
+            None => self.lose_taken(a),
         }
     }
 
@@ -344,12 +345,12 @@ impl Monitor {
         if self.lost || count == 0 {
             return;
         }
-        if !self.is_taken(a) {
+        if !self.may_be_taken(a) {
             return;
         }
         match self.replica(old, a) {
-            None => self.lose(),
             Some(at) => self.set_row(field_index(Addr(at), first), count),
+            None => self.lose_taken(a),
         }
     }
 
@@ -383,6 +384,17 @@ impl Monitor {
         self.set_due(place, true);
     }
 
+    // Returns false only if the object at `a` has no replica. Its code may be of a collection that was given up.
+    #[inline(always)]
+    #[tactic(auto, using(crate::proofs::RowsAgree::untaken))]
+    fn may_be_taken(&self, a: u32) -> bool
+        ensures none { IsFalse self.now.lost → IsFalse result → HasNoReplica self.now a }
+        ensures other { IsFalse result → slice_index_or self.now.olds a 0 ≡ 2 → ⊥ }
+    {
+        let from = a as usize;
+        from < self.olds.len() && self.olds.may_be_taken(from)
+    }
+
     // Whether the object at `a` has a replica.
     #[inline(always)]
     #[tactic(auto, using(crate::proofs::RowsAgree::untaken))]
@@ -413,9 +425,6 @@ impl Monitor {
         ensures link { IfSome result (λ b. slice_index old.now (link_place a) % 2 ^ 32 ≡ b) }
     {
         let link = a as usize + 1;
-        if a == 0 {
-            return None;
-        }
         if link >= old.len() {
             return None;
         }
@@ -658,14 +667,6 @@ fn reference_in(word: u64) -> Option<Addr>
         return None;
     }
     Some(Addr(half as u32))
-}
-
-// Half the word if it is even, and otherwise a number that is no address. Takes fewer instructions than a test of the lowest bit.
-#[inline(always)]
-fn half_of(word: u64) -> u64
-    ensures { result ≡ word / 2 + word % 2 * 2 ^ 63 }
-{
-    word / 2 + word % 2 * (1 << 63)
 }
 
 // Whether the numbers of an image fit the number of its words.

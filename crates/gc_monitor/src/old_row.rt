@@ -1,6 +1,6 @@
 //! The codes of the old space. Those of a collection that was given up count no more.
 
-ghost use Rattle.std.specs.Prelude.{◌≡◌, ◌<◌, ◌≤◌, ◌+◌, ◌++◌, ◌∷◌, [], ℕ, IfOk, OnOk, IsTrue, length, replicate, slice_index, slice_index_or, slice_set};
+ghost use Rattle.std.specs.Prelude.{◌≡◌, ◌<◌, ◌≤◌, ◌+◌, ◌++◌, ◌∷◌, [], ℕ, IfOk, OnOk, IsFalse, IsTrue, length, replicate, slice_index, slice_index_or, slice_set};
 ghost use Rattle.gc_monitor.specs.Internal.InWords.{freed};
 
 use crate::code_row::CodeRow;
@@ -131,6 +131,15 @@ impl OldRow {
         } else {
             START
         }
+    }
+
+    /// Returns false only if this place has another code than `TAKEN`. Reads no epoch.
+    #[inline(always)]
+    pub(crate) fn may_be_taken(&self, place: usize) -> bool
+        requires { place < length self.now.codes }
+        ensures { IsFalse result → slice_index self.now.codes place ≢ 2 }
+    {
+        self.row.get(place) == TAKEN
     }
 
     /// Returns whether so many places, and one more, have their words already.

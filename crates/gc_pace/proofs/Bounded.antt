@@ -93,7 +93,7 @@ copied_on s t reply on = grind (arith, common_steps)
 abbrev pub burden : Collected → ℕ
 burden heap = units_left heap + uncopied heap.core + heap.roots_left
 
-took_is : (before : Pace) (work : Work) → IsTrue (took_its_words before work) → (before.words ≤ units work) ⊎ ((before.words ≤ work.looks) ⊎ (before.words ≤ work.copied))
+took_is : (before : Pace) (work : Work) → IsTrue (took_its_words before work) → (before.words ≤ units work) ⊎ ((2 * before.words ≤ work.looks) ⊎ (before.words ≤ work.copied))
 took_is before work took = grind (arith, common_steps, leb-true)
 
 -- a call that owes steps took its words

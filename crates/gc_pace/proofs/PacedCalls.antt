@@ -1,6 +1,6 @@
 -- What paced work leaves in the logs, and that it stays ahead of the mutators, but for the steps that it owes.
 use Rattle.std.proofs.lemmas.Grind.{common_steps}
-use Rattle.std.proofs.Common.{◌≡◌, ◌⊎◌, inl, inr, ℕ, ◌+◌, ◌-◌, ◌/◌, ◌≤◌, true, false, Some, None, sym, ap, ◌∙◌, subst, arith}
+use Rattle.std.proofs.Common.{◌≡◌, ◌⊎◌, inl, inr, ℕ, ◌+◌, ◌-◌, ◌*◌, ◌/◌, ◌≤◌, true, false, Some, None, sym, ap, ◌∙◌, subst, arith}
 use Rattle.std.specs.Prelude.{min, IsTrue, IfSome}
 use Rattle.std.proofs.lemmas.Bool.{le-leb, cases_lt}
 use Rattle.gc_model.specs.State.{State}
@@ -63,7 +63,7 @@ module _ (before : Pace) (due : ℕ) (s t : State) (work : Work) (busy : 1 ≤ d
   ]
 
 -- the call took its words
-took : (before : Pace) (work : Work) → 1 ≤ before.words → (before.words ≤ units work) ⊎ ((before.words ≤ work.looks) ⊎ (before.words ≤ work.copied)) → IsTrue (took_its_words before work)
+took : (before : Pace) (work : Work) → 1 ≤ before.words → (before.words ≤ units work) ⊎ ((2 * before.words ≤ work.looks) ⊎ (before.words ≤ work.copied)) → IsTrue (took_its_words before work)
 took before work bounded many = grind (arith, common_steps, le-leb)
 
 -- work that ended, or took so many words, has ended or took its words

@@ -63,9 +63,9 @@ Pays pace counts due = 1 ≤ counts.is_open → min (min (pace.owed + spent pace
 abbrev pub pace_from : Pace → Counts → Pace
 pace_from pace counts = record pace { left = counts.end; end = counts.end; logged = counts.logged; owed = 0; roots = counts.roots_left }
 
--- the pace bounds the words of a call, and this one performed as many units, or took as many looks, or its replicas took as many words
+-- the pace bounds the words of a call, and this one performed as many units, or took twice as many looks, or its replicas took as many words
 abbrev pub took_its_words : Pace → Work → Bool
-took_its_words pace work = nat_lt 0 pace.words && (nat_le pace.words (units work) || (nat_le pace.words work.looks || nat_le pace.words work.copied))
+took_its_words pace work = nat_lt 0 pace.words && (nat_le pace.words (units work) || (nat_le (2 * pace.words) work.looks || nat_le pace.words work.copied))
 
 -- The steps that are owed after this work: those of the steps due that it left because it took its words. Each unit of looks counts as a step.
 abbrev pub owed_after : Pace → ℕ → Work → ℕ

@@ -102,13 +102,13 @@ units work = work.steps + work.looks / 32
 -- A call of at most so many units that took so many looks, and performed so many steps, can do no more.
 abbrev pub IsSpent : Looks → ℕ → ℕ → ℕ → Type 0
 IsSpent Count most looks steps = most ≤ steps + looks / 32
-IsSpent (CountUpTo bound) most looks steps = (most ≤ steps + looks / 32) ⊎ (bound ≤ looks)
+IsSpent (CountUpTo bound) most looks steps = (most ≤ steps + looks / 32) ⊎ (2 * bound ≤ looks)
 IsSpent AreFree most looks steps = most ≤ steps
 
 -- a call of at most so many units takes no more looks
 abbrev pub HaveFewLooks : Looks → ℕ → ℕ → Type 0
 HaveFewLooks Count most looks = looks ≤ 32 * most
-HaveFewLooks (CountUpTo bound) most looks = (looks ≤ 32 * most) × (looks ≤ bound)
+HaveFewLooks (CountUpTo bound) most looks = (looks ≤ 32 * most) × (looks ≤ 2 * bound)
 HaveFewLooks AreFree most looks = ⊤
 
 abbrev pub no_work : Work

@@ -22,7 +22,7 @@ pub struct Pace {
     pub rate: u32,
     /// The words in use below which no collection begins, unless little room is left.
     pub least: u32,
-    /// A call ends once it performed this many units of work, or took this many looks at extra roots, or its replicas took this many words; or 0
+    /// A call ends once it performed this many units of work, or took twice as many looks at extra roots, or its replicas took this many words; or 0
     /// if it performs all steps that are due.
     pub words: u32,
     /// The heap's end after the last flip.
@@ -147,14 +147,14 @@ impl Pace {
         }
     }
 
-    /// Returns whether the pace bounds the words of a call, and this one performed as many units, or took as many looks, or its replicas took as many
-    /// words.
+    /// Returns whether the pace bounds the words of a call, and this one performed as many units, or took twice as many looks, or its replicas took as
+    /// many words.
     fn took_its_words(&self, work: &Work) -> bool
         ensures { result ≡ paces.took_its_words self.now work.now }
     {
         self.words > 0
             && (work.units() >= u64::from(self.words)
-                || work.looks >= self.words
+                || u64::from(work.looks) >= 2 * u64::from(self.words)
                 || work.copied >= self.words)
     }
 

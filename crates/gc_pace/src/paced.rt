@@ -12,8 +12,8 @@ use crate::work::{Work, only_looks, work_bounded, work_through};
 use gc_collected::CollectedHeap;
 use gc_graph::NoMemory;
 
-/// Performs this many useful steps, or none. Unless `words` is 0, 32 looks count as a step, and it ends once it performed `words` steps, or took `words`
-/// looks, or replicas took `words` words.
+/// Performs this many useful steps, or none. Unless `words` is 0, 32 looks count as a step, and it ends once it performed `words` steps, or took twice
+/// as many looks, or replicas took `words` words.
 #[tactic(auto, using(crate::proofs::Waiting::unworked))]
 fn work_due(heap: &mut CollectedHeap, words: u32, due: u32) -> Result<Work, NoMemory>
     ensures none { due ≡ 0 → IfOk result (λ work. (heap.new ≡ heap.old) × (work ≡ no_work)) }
@@ -32,7 +32,7 @@ fn work_due(heap: &mut CollectedHeap, words: u32, due: u32) -> Result<Work, NoMe
 }
 
 /// Performs the useful steps that are due before the program allocates `wanted` words, and reports them. Stops early for the reasons of
-/// `work_on` and, if the pace bounds the words, once it performed as many units, or took as many looks, or its replicas took as many words. The pace
+/// `work_on` and, if the pace bounds the words, once it performed as many units, or took twice as many looks, or its replicas took as many words. The pace
 /// keeps the steps that are left then. On `NoMemory` it is unchanged.
 pub fn work_at_pace(
     heap: &mut CollectedHeap,

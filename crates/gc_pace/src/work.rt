@@ -45,7 +45,7 @@ const LOOKS_A_UNIT: u32 = 32;
 pub enum Looks {
     /// 32 looks that find nothing to copy are a unit, as a step is.
     Count,
-    /// The same, and a call takes no more than this many looks.
+    /// The same, and a call takes no more than twice this many looks.
     CountUpTo(u32),
     /// A call takes as many looks as its steps need.
     AreFree,
@@ -359,7 +359,10 @@ fn looks_at_once(looks_as: Looks, taken: u32) -> u32
 {
     match looks_as {
         Looks::Count => LOOKS_A_UNIT,
-        Looks::CountUpTo(most) => LOOKS_A_UNIT.min(most.saturating_sub(taken)),
+        Looks::CountUpTo(most) => {
+            let left = (2 * u64::from(most)).saturating_sub(u64::from(taken));
+            left.min(u64::from(LOOKS_A_UNIT)) as u32
+        }
         Looks::AreFree => u32::MAX,
     }
 }

@@ -1,29 +1,15 @@
 -- What looks leave of the checker's row, and when all roots correspond.
-use Rattle.std.proofs.Common.{◌≡◌, ◌≢◌, ⊎_elim, ℕ, ◌+◌, ◌-◌, ◌<◌, ◌≤◌, ◌++◌, [], ◌∷◌, true, false, List, length, replicate, set, get_or-set_same, get_or-set_other, refl, sym, ap, ◌∙◌, subst, arith}
-use Rattle.std.specs.Prelude.{slice_index, slice_set}
-use Rattle.std.proofs.lemmas.Bool.{cases_lt, cases_eq}
+use Rattle.std.proofs.Common.{◌≡◌, ⊎_elim, ℕ, ◌+◌, ◌-◌, ◌<◌, ◌≤◌, ◌++◌, [], ◌∷◌, true, List, length, replicate, refl, ap, ◌∙◌, subst, arith}
+use Rattle.std.specs.Prelude.{slice_index}
+use Rattle.std.proofs.lemmas.Bool.{cases_lt}
 use Rattle.std.proofs.lemmas.List.{length-append, get_or_append_left}
 use Rattle.std.proofs.lemmas.Grind.{common_steps}
 use Rattle.gc_graph.specs.Correspond.{paired}
-use Rattle.gc_words.specs.Marks.{is_marked}
 use Rattle.gc_words.specs.Word.{words_correspond}
 use Rattle.gc_monitor.specs.Watch.{RootsCorrespond}
 use Rattle.gc_monitor.proofs.Public.{all_alike}
 use Rattle.gc_roots.specs.Internal.Rows.{HasLookedAtAll}
 use Rattle.gc_roots.specs.Looks.{LookRow, HasLooked}
-
--- a look at extra root k, whose twin is written
-pub looked : (pairs : List (ℕ × ℕ)) (slots k word twin : ℕ) (olds news : List ℕ) (row now : LookRow) → slots + k < length news → slice_index olds (slots + k) ≡ word
-    → ((j : ℕ) → j ≢ k → j < now.front → is_marked now.marks j ≡ false → (j < row.front) × (is_marked row.marks j ≡ false))
-    → (is_marked now.marks k ≡ false → words_correspond pairs word twin ≡ true)
-    → HasLooked pairs slots olds news row → HasLooked pairs slots olds (slice_set news (slots + k) twin) now
-looked pairs slots k word twin olds news row now within holds others here h j less none = ⊎_elim
-    (λ same. (let none_k : is_marked now.marks k ≡ false = subst (λ q. is_marked now.marks q ≡ false) same none in
-    subst (λ q. words_correspond pairs (slice_index olds (slots + q)) (slice_index (set news (slots + k) twin) (slots + q)) ≡ true) (sym same)
-    (ap (λ v. words_correspond pairs v (slice_index (set news (slots + k) twin) (slots + k))) holds ∙ ap (words_correspond pairs word) (get_or-set_same news (slots + k) twin 0 within) ∙ here none_k)))
-    (λ differ. (let was = others j differ less none in
-    ap (words_correspond pairs (slice_index olds (slots + j))) (get_or-set_other news (slots + k) (slots + j) twin 0 (λ e. differ (omega (arith, e)))) ∙ h j was.0 was.1))
-    (cases_eq j k)
 
 -- where all were looked at, and the slots and the nils correspond, all roots do
 pub all_correspond : (pairs : List (ℕ × ℕ)) (slots n m : ℕ) (vs us : List ℕ) (row : LookRow) → length vs ≡ length us → n ≡ m → slots ≤ length vs → HasLooked pairs slots (vs ++ replicate n 0) (us ++ replicate m 0) row

@@ -4,7 +4,7 @@ use Rattle.std.specs.Prelude.{max}
 use Rattle.std.proofs.Common.{◌≡◌, ◌≢◌, ⊎_elim, ℕ, zero, suc, ◌+◌, ◌<◌, ◌≤◌, true, false, List, refl, sym, ap, ◌∙◌, subst, arith}
 use Rattle.std.proofs.lemmas.Bool.{cases_Bool, cases_eq, cases_lt, lt-ltb}
 use Rattle.gc_words.specs.Marks.{is_marked}
-use Rattle.gc_roots.specs.Twins.{RootRow, AskForLooks, AsksForLook, IsLooked, IsNextRoot, IsWritten, LooksOnce, begun, is_due_root, looks_left, marks_below}
+use Rattle.gc_roots.specs.Twins.{RootRow, AskForLooks, AsksForLook, IsLooked, IsNextRoot, IsWritten, HasLookedOn, begun, is_due_root, looks_left, marks_below}
 
 -- no more marks than places
 pub marks_bounded : (marks : List ℕ) (n : ℕ) → marks_below marks n ≤ n
@@ -52,17 +52,17 @@ front_passes was now k others none = grind (arith, common_steps, same_marks was 
 
 -- after a look at the next root, one or two looks less are left
 pub looks_once : (row mid now : RootRow) (slots k word : ℕ) → IsNextRoot row k → IsLooked row mid slots k word → mid.used ≡ row.used
-    → now ≡ record mid { used = now.used } → now.used ≤ mid.used → mid.used ≤ now.used + 1 → LooksOnce row now
-looks_once row mid now slots k word next l used is low high = subst (LooksOnce row) (sym is) (⊎_elim below at (cases_lt k row.front))
+    → now ≡ record mid { used = now.used } → now.used ≤ mid.used → mid.used ≤ now.used + 1 → HasLookedOn 1 (looks_left row) (looks_left now)
+looks_once row mid now slots k word next l used is low high = subst (λ r. HasLookedOn 1 (looks_left row) (looks_left r)) (sym is) (⊎_elim below at (cases_lt k row.front))
   where
-    below : k < row.front → LooksOnce row (record mid { used = now.used })
+    below : k < row.front → HasLookedOn 1 (looks_left row) (looks_left (record mid { used = now.used }))
     below less =
         let fewer = one_mark_less row.marks mid.marks k row.front l.others (due_is_marked row k less next.due) l.none less in
         let same : mid.front ≡ row.front = omega (arith, l.front, less) in
         let marks : marks_below mid.marks mid.front ≡ marks_below mid.marks row.front = ap (marks_below mid.marks) same in
         record { less = omega (arith, fewer, same, marks, used, l.stale, low, high); few = omega (arith, fewer, same, marks, used, l.stale, low, high) }
 
-    at : row.front ≤ k → LooksOnce row (record mid { used = now.used })
+    at : row.front ≤ k → HasLookedOn 1 (looks_left row) (looks_left (record mid { used = now.used }))
     at past =
         let here : k ≡ row.front = omega (arith, past, next.low) in
         let passes = front_passes row.marks mid.marks k l.others l.none in

@@ -5,6 +5,7 @@ pub mod Stay
 pub mod Twins
 pub mod Turns
 pub mod Looks
+pub mod InRow
 pub mod Counted
 pub mod Compared
 pub mod Alike

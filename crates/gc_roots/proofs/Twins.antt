@@ -118,18 +118,3 @@ looked_keeps row now s c k word is l used low within twin h = record {
 
     here : KnowsTwin s (roots_of s.mutators + k) (slice_index now.twins (roots_of s.mutators + k))
     here = subst (KnowsTwin s (roots_of s.mutators + k)) (sym there) (subst (λ o. IfSome o (λ d. IsTwin d (root s.heap.graph (roots_of s.mutators + k)) word)) (sym is) twin)
-
--- the last extra root in use is nil
-pub trimmed_keeps : (row now : RootRow) (s : State) → now ≡ record row { used = now.used } → now.used + 1 ≡ row.used → root s.heap.graph (roots_of s.mutators + now.used) ≡ Nil → KeepsTwins row s → KeepsTwins now s
-trimmed_keeps row now s is less nil h = subst (λ r. KeepsTwins r s) (sym is) (record {
-  counted = h.counted;
-  front_high = h.front_high;
-  used_high = omega (arith, less, h.used_high);
-  stale_high = h.stale_high;
-  unused = λ i le. ⊎_elim
-      (λ same. subst (λ q. root s.heap.graph (roots_of s.mutators + q) ≡ Nil) (sym same) nil)
-      (λ differ. h.unused i (omega (arith, le, less, differ)))
-      (cases_eq i now.used);
-  clean = h.clean;
-  right = h.right;
-})

@@ -1,8 +1,9 @@
 -- What the standing checker knows of the extra roots: which of them it has compared with their twins since they were written.
-use Rattle.std.specs.Prelude.{◌≡◌, ◌≢◌, ℕ, max, ◌+◌, ◌<◌, true, false, List, slice_index}
+use Rattle.std.specs.Prelude.{◌≡◌, ◌≢◌, ◌⊎◌, ℕ, max, ◌+◌, ◌<◌, ◌≤◌, true, false, List, slice_index}
 use Rattle.gc_words.specs.Word.{words_correspond}
 use Rattle.gc_words.specs.Marks.{is_marked}
 use Rattle.gc_roots.specs.Twins.{RootRow}
+use Rattle.gc_roots.specs.declared.root_twins.LookedAt.{LookedAt}
 
 -- the marks of extra roots that it has to compare again, the extra root from which on it has compared none, and how
 -- many extra roots there are
@@ -37,3 +38,15 @@ pub record IsTold (was now : LookRow) (k : ℕ) : Type 0 where
 -- extra root k was looked at: no other one is compared by it
 abbrev pub ComparesOnly : LookRow → LookRow → ℕ → Type 0
 ComparesOnly was now k = (i : ℕ) → i ≢ k → i < now.front → is_marked now.marks i ≡ false → (i < was.front) × (is_marked was.marks i ≡ false)
+
+-- the same for extra roots in a row
+abbrev pub ComparesOnlyAt : LookRow → LookRow → LookedAt → Type 0
+ComparesOnlyAt was now at = (i : ℕ) → (i < at.from) ⊎ (at.to ≤ i) → i < now.front → is_marked now.marks i ≡ false → (i < was.front) × (is_marked was.marks i ≡ false)
+
+-- these extra roots were compared, and their words correspond
+abbrev pub AreCompared : LookRow → LookedAt → Type 0
+AreCompared now at = (k : ℕ) → at.from ≤ k → k < at.to → (k < now.front) × (is_marked now.marks k ≡ false)
+
+-- of all root words and twins, behind so many slots, those of these extra roots correspond
+abbrev pub CorrespondAt : List (ℕ × ℕ) → ℕ → List ℕ → List ℕ → LookedAt → Type 0
+CorrespondAt pairs slots roots twins at = (k : ℕ) → at.from ≤ k → k < at.to → words_correspond pairs (slice_index roots (slots + k)) (slice_index twins (slots + k)) ≡ true

@@ -1,10 +1,11 @@
 -- Twins of the roots: while a collection is open, the word that each extra root takes at the flip.
-use Rattle.std.specs.Prelude.{◌≡◌, ◌≢◌, ◌||◌, ℕ, zero, suc, nat_lt, not, Bool, if◌then◌else◌, ◌+◌, ◌-◌, ◌≤◌, ◌<◌, max, true, false, List, length, slice_index, slice_set, IfSome}
+use Rattle.std.specs.Prelude.{◌≡◌, ◌≢◌, ◌||◌, ℕ, zero, suc, nat_lt, not, Bool, if◌then◌else◌, ◌+◌, ◌-◌, ◌*◌, ◌≤◌, ◌<◌, max, true, false, List, length, slice_index, slice_set, IfSome}
 use Rattle.gc_graph.specs.Slots.{roots_of}
 use Rattle.gc_graph.specs.Graph.{Nil, root}
 use Rattle.gc_words.specs.Marks.{is_marked}
 use Rattle.gc_model.specs.State.{Collection, State}
 use Rattle.gc_copy.specs.Twins.{IsTwin}
+use Rattle.gc_roots.specs.declared.root_twins.LookedAt.{LookedAt}
 
 -- A word for each root; marks of extra roots whose words may be out of date; the extra roots from `front` on were not looked at; those from
 -- `used` on are nil; and the words from `stale` on, and from `front` on, are 0.
@@ -84,10 +85,19 @@ marks_below marks (suc k) = marks_below marks k + (if is_marked marks k then 1 e
 abbrev pub looks_left : RootRow → ℕ
 looks_left row = marks_below row.marks row.front + (max row.used row.stale - row.front)
 
--- one look less is left, or two less, where the last extra root in use is found to be nil
-pub record LooksOnce (was now : RootRow) : Type 0 where
-  pub less : looks_left now < looks_left was
-  pub few : looks_left was ≤ looks_left now + 2
+-- the extra roots from one on and below another were looked at in a row: the front has passed them, and none of them is marked
+pub record HasLookedInRow (was now : RootRow) (at : LookedAt) : Type 0 where
+  pub from : at.from ≡ was.front
+  pub to : at.to ≡ now.front
+  pub order : at.from ≤ at.to
+  pub stale : now.stale ≡ was.stale
+  pub marks : now.marks ≡ was.marks
+  pub none : (i : ℕ) → at.from ≤ i → i < at.to → is_marked now.marks i ≡ false
+
+-- after so many looks one look less is left for each, or two less, where a last extra root in use is found to be nil
+pub record HasLookedOn (looks was now : ℕ) : Type 0 where
+  pub less : now + looks ≤ was
+  pub few : was ≤ now + 2 * looks
 
 -- from `was` to `now` looks that are left none was taken away, and at most so many were added
 abbrev pub AskForLooks : ℕ → ℕ → ℕ → Type 0

@@ -11,4 +11,4 @@ pub use laws::{
     twins_are_alike, writes_ask_for_looks,
 };
 pub use root_looks::{RootLooks, RootWatcher};
-pub use root_twins::RootTwins;
+pub use root_twins::{LookedAt, RootTwins};

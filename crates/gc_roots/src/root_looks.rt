@@ -7,10 +7,11 @@ ghost use Rattle.gc_monitor.specs.Claims.{Accepts};
 ghost use Rattle.gc_monitor.specs.Origins.{pairs_in};
 ghost use Rattle.gc_monitor.specs.Outline.{outline_in};
 ghost use Rattle.gc_monitor.specs.Tables.{RowsAgree};
-ghost use Rattle.gc_roots.specs.Looks.{LookRow, HasLooked, IsCompared, IsTold, ComparesOnly};
+ghost use Rattle.gc_roots.specs.Looks.{LookRow, HasLooked, IsCompared, IsTold, CorrespondAt, AreCompared, ComparesOnly, ComparesOnlyAt};
 ghost use Rattle.gc_roots.specs.Internal.Rows.{HasLookedAtAll};
 
 use crate::due::DueRow;
+use crate::root_twins::LookedAt;
 use gc_graph::NoMemory;
 use gc_monitor::{Monitor, Outline, Watcher};
 use std::alloc::Global;
@@ -72,11 +73,10 @@ impl RootLooks {
     /// Compares extra root `k`, which holds this word, with its twin, whoever has written that.
     #[inline(always)]
     pub fn look(&mut self, standing: &Monitor, k: u32, word: u64, twin: u64)
-        ensures looked { (slots : ℕ) (olds news : List ℕ) → slots + k < length news → slice_index olds (slots + k) ≡ word
-            → HasLooked (pairs_in standing.now.origins) slots olds news self.old
-            → HasLooked (pairs_in standing.now.origins) slots olds (slice_set news (slots + k) twin) self.new }
+        ensures looked { k < self.new.front → is_marked self.new.marks k ≡ false → words_correspond (pairs_in standing.now.origins) word twin ≡ true }
         ensures compared { words_correspond (pairs_in standing.now.origins) word twin ≡ true → k ≤ self.old.front → k < self.old.room → IsCompared self.old self.new k }
         ensures others { ComparesOnly self.old self.new k }
+        ensures room { self.new.room ≡ self.old.room }
     {
         if k as usize != self.front {
             self.look_again(standing, k, word, twin);
@@ -86,14 +86,48 @@ impl RootLooks {
         }
     }
 
+    /// Compares the extra roots from `from` on and below `to` with their twins, whoever has written those. The rows have all root words and all
+    /// twins, and begin with so many slots.
+    pub fn look_on(
+        &mut self,
+        standing: &Monitor,
+        roots: &[u64],
+        twins: &[u64],
+        slots: usize,
+        at: LookedAt,
+    )
+        requires order { at.from ≤ at.to }
+        requires roots { slots + at.to ≤ length roots.now }
+        requires twins { slots + at.to ≤ length twins.now }
+        ensures looked { (k : ℕ) → at.from ≤ k → k < at.to → k < self.new.front → is_marked self.new.marks k ≡ false
+            → words_correspond (pairs_in standing.now.origins) (slice_index roots.now (slots + k)) (slice_index twins.now (slots + k)) ≡ true }
+        ensures compared { CorrespondAt (pairs_in standing.now.origins) slots roots.now twins.now at → at.from ≤ self.old.front → at.to ≤ self.old.room
+            → AreCompared self.new at }
+        ensures others { ComparesOnlyAt self.old self.new at }
+    {
+        let from = at.from as usize;
+        let to = at.to as usize;
+        if from == self.front && to <= self.room && self.due.first().is_none() {
+            self.front = alike_until(standing, roots, twins, slots + from, slots + to) - slots;
+            return;
+        }
+        for k in at.from..at.to {
+            self.look(
+                standing,
+                k,
+                roots[slots + k as usize],
+                twins[slots + k as usize],
+            );
+        }
+    }
+
     /// Compares an extra root with its twin again. Extra root `k` is not the first one that was not compared.
     #[inline(never)]
     fn look_again(&mut self, standing: &Monitor, k: u32, word: u64, twin: u64)
-        ensures looked { (slots : ℕ) (olds news : List ℕ) → slots + k < length news → slice_index olds (slots + k) ≡ word
-            → HasLooked (pairs_in standing.now.origins) slots olds news self.old
-            → HasLooked (pairs_in standing.now.origins) slots olds (slice_set news (slots + k) twin) self.new }
+        ensures looked { k < self.new.front → is_marked self.new.marks k ≡ false → words_correspond (pairs_in standing.now.origins) word twin ≡ true }
         ensures compared { words_correspond (pairs_in standing.now.origins) word twin ≡ true → k < self.old.front → IsCompared self.old self.new k }
         ensures others { ComparesOnly self.old self.new k }
+        ensures room { self.new.room ≡ self.old.room }
     {
         let k = k as usize;
         if k < self.front {
@@ -140,7 +174,7 @@ impl RootLooks {
         if !self.knows(old.roots.len() - slots) {
             return false;
         }
-        slots_are_alike(standing, old.roots, new.roots, slots)
+        alike_until(standing, old.roots, new.roots, 0, slots) == slots
     }
 }
 
@@ -170,17 +204,20 @@ impl Watcher for RootWatcher<'_> {
     }
 }
 
-/// Returns whether the first words of both rows stand for each other.
-fn slots_are_alike(standing: &Monitor, old: &[u64], new: &[u64], slots: usize) -> bool
-    requires old { slots ≤ length old.now }
-    requires new { slots ≤ length new.now }
-    ensures all { IsTrue result → (p : ℕ) → p < slots → words_correspond (pairs_in standing.now.origins) (slice_index old.now p) (slice_index new.now p) ≡ true }
-    ensures exact { ((p : ℕ) → p < slots → words_correspond (pairs_in standing.now.origins) (slice_index old.now p) (slice_index new.now p) ≡ true) → IsTrue result }
+/// Returns the first place from `from` on and below `to` at which the words do not stand for each other, or `to`.
+fn alike_until(standing: &Monitor, old: &[u64], new: &[u64], from: usize, to: usize) -> usize
+    requires order { from ≤ to }
+    requires old { to ≤ length old.now }
+    requires new { to ≤ length new.now }
+    ensures low { from ≤ result }
+    ensures high { result ≤ to }
+    ensures alike { (p : ℕ) → from ≤ p → p < result → words_correspond (pairs_in standing.now.origins) (slice_index old.now p) (slice_index new.now p) ≡ true }
+    ensures differs { result < to → words_correspond (pairs_in standing.now.origins) (slice_index old.now result) (slice_index new.now result) ≡ false }
 {
-    for place in 0..slots {
+    for place in from..to {
         if !standing.roots_are_alike(old[place], new[place]) {
-            return false;
+            return place;
         }
     }
-    true
+    to
 }

@@ -1,16 +1,19 @@
 //! The row of twins, beside a heap and its open collection.
 
-ghost use Rattle.std.specs.Prelude.{◌≡◌, ◌≢◌, ◌⊎◌, ◌<◌, ◌≤◌, ◌*◌, ◌+◌, ℕ, length, max, replicate, slice_set, take, true, false, IsTrue, IfOk, IfSome, MatchResult, None, Some, ⊤};
+ghost use Rattle.std.specs.Prelude.{◌≡◌, ◌≢◌, ◌⊎◌, ◌<◌, ◌≤◌, ◌*◌, ◌+◌, ◌-◌, ℕ, length, max, replicate, slice_index, slice_set, take, true, false, IsTrue, IfOk, IfSome, MatchResult, None, Some, ⊤};
 ghost use Rattle.gc_graph.specs.Slots.{roots_of};
+ghost use Rattle.gc_graph.specs.Graph.{Nil, root};
 ghost use Rattle.gc_words.specs.Image.{is_start};
+ghost use Rattle.gc_words.specs.Marks.{is_marked};
 ghost use Rattle.gc_heap.specs.Heap.{HeapWords, IsHeap, graph_in};
 ghost use Rattle.gc_model.specs.State.{State, pairs_of};
 ghost use Rattle.gc_model.specs.Staying.{IsMissing};
 ghost use Rattle.gc_model.specs.Steps.{collect, is_ready, root_target};
 ghost use Rattle.gc_model.specs.declared.step.Step.{Step};
 ghost use Rattle.gc_model.specs.declared.step.StepReply.{StepReply};
+ghost use Rattle.gc_copy.specs.Twins.{IsTwin};
 ghost use Rattle.gc_copy.specs.Words.{AreMoved, BelongsTo, LinksNothing, TellsMoves, collection_in, idle_state, open_state, new_root_words};
-ghost use Rattle.gc_roots.specs.Twins.{RootRow, KeepsTwins, IsWritten, IsLooked, IsDone, IsNextRoot, LooksOnce, SlotsAreTwins, begun, is_due_root, looks_left};
+ghost use Rattle.gc_roots.specs.Twins.{RootRow, KeepsTwins, HasLookedInRow, IsWritten, IsLooked, IsDone, IsNextRoot, HasLookedOn, SlotsAreTwins, begun, is_due_root, looks_left};
 
 use crate::due::DueRow;
 use gc_copy::{Collection, Room, Swapped};
@@ -21,6 +24,15 @@ use std::alloc::Global;
 use std::cmp::max;
 use std::marker::Model;
 use std::mem::replace;
+
+/// Extra roots that were looked at in a row.
+#[derive(Clone, Copy, Debug, PartialEq, Eq)]
+pub struct LookedAt {
+    /// The first of them.
+    pub from: u32,
+    /// The extra root behind the last of them.
+    pub to: u32,
+}
 
 /// The twins of a heap's roots.
 #[derive(Debug, Drop)]
@@ -177,38 +189,90 @@ impl RootTwins {
             (graph_in heap.now) (roots_of heap.now.mutators) (length (graph_in heap.now).roots) (roots_of heap.now.mutators + k) a.0) }
         ensures start { MatchResult result (λ _. ⊤) (λ a. IsTrue (is_start heap.now.space.words a.0)) }
         // One look less is left, or two less, where the last root in use is nil.
-        ensures less { MatchResult result (λ _. LooksOnce self.old self.new) (λ _. ⊤) }
+        ensures less { MatchResult result (λ _. HasLookedOn 1 (looks_left self.old) (looks_left self.new)) (λ _. ⊤) }
     {
         let slots = root_count(heap.mutators());
         match collection.root_twin(heap, slots + k) {
             Err(target) => Err(target),
             Ok(word) => {
                 self.looked(slots, k, word);
-                self.trim(heap, slots, word);
+                self.trim(heap, slots, usize::from(word == 0));
                 Ok(word)
             }
         }
     }
 
-    /// Notes that the last extra root in use is not in use any more, if it is nil. Reads it only where the root with this twin is nil, too.
+    /// Looks at the extra roots in a row that were not looked at, if none is marked, and brings their twins up to date. Looks at no more than `most`,
+    /// and stops before the first root whose target has no replica. As many of the last roots in use as it has looked at, if they are nil, are in use
+    /// no more.
+    pub fn look_on(&mut self, heap: &Heap, collection: &Collection, most: u32) -> LookedAt
+        requires belongs { BelongsTo heap.now collection.now }
+        requires keeps { KeepsTwins self.old (open_state heap.now collection.now) }
+        ensures keeps { KeepsTwins self.new (open_state heap.now collection.now) }
+        ensures looked { HasLookedInRow self.old self.new result }
+        ensures most { result.to ≤ result.from + most }
+        ensures less { HasLookedOn (result.to - result.from) (looks_left self.old) (looks_left self.new) }
+    {
+        let from = self.front;
+        let count = self.ahead(most);
+        if count != 0 {
+            let slots = root_count(heap.mutators());
+            self.write_on(heap, collection, slots, count);
+            self.trim(heap, slots, self.front - from);
+        }
+        LookedAt {
+            from: from as u32,
+            to: self.front as u32,
+        }
+    }
+
+    /// Returns the number of extra roots from the front on that may be looked at in a row, at most this many: none if a root is marked.
     #[inline(always)]
-    fn trim(&mut self, heap: &Heap, slots: usize, twin: u64)
+    fn ahead(&self, most: u32) -> usize
+        ensures none { 1 ≤ result → (k : ℕ) → is_marked self.now.marks k ≡ false }
+        ensures within { self.now.front + result ≤ max self.now.used (max self.now.stale self.now.front) }
+        ensures most { result ≤ most }
+    {
+        if self.due.first().is_some() {
+            return 0;
+        }
+        let ahead = max(self.used, self.stale).saturating_sub(self.front);
+        ahead.min(most as usize)
+    }
+
+    /// Writes the twins of so many extra roots from the front on, and moves the front behind them. Stops before the first whose target has no replica.
+    #[inline(always)]
+    fn write_on(&mut self, heap: &Heap, collection: &Collection, slots: usize, count: usize)
+        requires belongs { BelongsTo heap.now collection.now }
+        requires keeps { KeepsTwins self.old (open_state heap.now collection.now) }
+        requires slots { slots ≡ roots_of heap.now.mutators }
+        requires none { (k : ℕ) → is_marked self.old.marks k ≡ false }
+        requires within { self.old.front + count ≤ max self.old.used (max self.old.stale self.old.front) }
+        ensures keeps { KeepsTwins self.new (open_state heap.now collection.now) }
+        ensures rest { self.new ≡ record self.old { twins = self.new.twins; front = self.new.front } }
+        ensures front { (self.old.front ≤ self.new.front) × (self.new.front ≤ self.old.front + count) }
+    {
+        let from = slots + self.front;
+        let behind = write_twins(
+            collection,
+            heap,
+            self.twins.as_mut_slice(),
+            from,
+            from + count,
+        );
+        self.front = behind - slots;
+    }
+
+    /// Notes that the last extra roots in use are not in use any more, if they are nil: at most so many.
+    #[inline(always)]
+    fn trim(&mut self, heap: &Heap, slots: usize, most: usize)
         requires slots { slots ≡ roots_of heap.now.mutators }
         requires within { slots + self.old.used ≤ length heap.now.roots }
         ensures keeps { (s : State) → s.heap.graph ≡ graph_in heap.now → s.mutators ≡ heap.now.mutators → KeepsTwins self.old s → KeepsTwins self.new s }
         ensures rest { self.new ≡ record self.old { used = self.new.used } }
-        ensures used { (self.new.used ≤ self.old.used) × (self.old.used ≤ self.new.used + 1) }
+        ensures used { (self.new.used ≤ self.old.used) × (self.old.used ≤ self.new.used + most) }
     {
-        if twin != 0 {
-            return;
-        }
-        if self.used == 0 {
-            return;
-        }
-        let last = self.used - 1;
-        if heap.roots()[slots + last] == 0 {
-            self.used = last;
-        }
+        self.used = in_use(heap, slots, self.used, most);
     }
 
     /// Notes that the twin of extra root `k` is this word, where there are so many slots.
@@ -292,4 +356,51 @@ impl RootTwins {
         self.front = 0;
         self.again = 0;
     }
+}
+
+/// Writes the twins of the roots from place `from` on and below place `to`, and stops before the first whose target has no replica. Returns the
+/// place at which it stopped.
+fn write_twins(
+    collection: &Collection,
+    heap: &Heap,
+    twins: &mut [u64],
+    from: usize,
+    to: usize,
+) -> usize
+    requires belongs { BelongsTo heap.now collection.now }
+    requires order { from ≤ to }
+    requires roots { to ≤ length heap.now.roots }
+    requires twins { to ≤ length twins.old }
+    ensures low { from ≤ result }
+    ensures high { result ≤ to }
+    ensures len { length twins.new ≡ length twins.old }
+    ensures right { (p : ℕ) → from ≤ p → p < result → IsTwin (collection_in collection.now) (root (graph_in heap.now) p) (slice_index twins.new p) }
+    ensures before { (p : ℕ) → p < from → slice_index twins.new p ≡ slice_index twins.old p }
+    ensures behind { (p : ℕ) → result ≤ p → slice_index twins.new p ≡ slice_index twins.old p }
+{
+    for place in from..to {
+        match collection.root_twin(heap, place) {
+            Ok(word) => twins[place] = word,
+            Err(_target) => return place,
+        }
+    }
+    to
+}
+
+/// Returns how many of the first `used` extra roots may be in use, if at most `most` of the last ones are found to be nil.
+#[inline(always)]
+fn in_use(heap: &Heap, slots: usize, used: usize, most: usize) -> usize
+    requires within { slots + used ≤ length heap.now.roots }
+    ensures low { used ≤ result + most }
+    ensures high { result ≤ used }
+    ensures nil { (k : ℕ) → result ≤ k → k < used → root (graph_in heap.now) (slots + k) ≡ Nil }
+{
+    let mut left = used;
+    for nils in 0..most {
+        if left == 0 || heap.roots()[slots + left - 1] != 0 {
+            return left;
+        }
+        left -= 1;
+    }
+    left
 }

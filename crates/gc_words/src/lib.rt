@@ -26,4 +26,6 @@ pub use marks::{is_marked, mark};
 pub use refusal::Refusal;
 pub use shape::{ShapeFault, next_in, walk, walk_image};
 pub use space::Space;
-pub use value::{Addr, NewAddr, OldAddr, Value, decode, decode_wide, encode, target_of, value_in};
+pub use value::{
+    Addr, NewAddr, OldAddr, Value, decode, decode_wide, encode, half_of, target_of, value_in,
+};

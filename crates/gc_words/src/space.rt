@@ -71,6 +71,17 @@ impl Space {
         self.words.truncate(end);
     }
 
+    /// Tells the allocator how many of the space's words are in use, so that it can give the pages behind them back to the system. It hears of that where the
+    /// block grows by a word and becomes smaller again; if it refuses the word, it hears of nothing. The space stays as it is.
+    pub fn release(&mut self)
+        ensures { self.new ≡ self.old }
+    {
+        let free = self.size as usize - self.words.len();
+        if self.words.reserve_exact(free + 1).is_ok() {
+            self.words.shrink_to(self.size as usize);
+        }
+    }
+
     /// Makes the space smaller, and frees the memory of the words that it loses, of which no object may take one. Allocates nothing.
     pub fn shrink(&mut self, size: u32)
         requires room { end_of self.old ≤ size }

@@ -1,4 +1,4 @@
-ghost use Rattle.std.specs.Prelude.{◌≡◌, ◌≤◌, Some, IfSome, IsTrue};
+ghost use Rattle.std.specs.Prelude.{◌≡◌, ◌≤◌, ◌+◌, ◌*◌, ◌/◌, ◌%◌, ◌^◌, Some, IfSome, IsTrue};
 ghost use Rattle.std.specs.Option.{option_map};
 ghost use Rattle.gc_graph.specs.Graph.{name_of};
 ghost use Rattle.gc_graph.specs.Limits.{most_words};
@@ -84,10 +84,20 @@ pub fn target_of(word: u64) -> Option<Addr>
     requires { IsTrue (is_value word) }
     ensures { option_map (λ a. a.0) result ≡ name_of (value_of word) }
 {
-    match value_in(word) {
-        Value::Ref(at) => Some(at),
-        _ => None,
+    let half = half_of(word);
+    // One test tells references from nil, whose half less 1 is the largest word, and from numbers.
+    if half.wrapping_sub(1) >= u64::from(u32::MAX) - 1 {
+        return None;
     }
+    Some(Addr(half as u32))
+}
+
+/// Returns half the word if it is even, and otherwise a number that is no address. It takes fewer instructions than a test of the lowest bit.
+#[inline(always)]
+pub fn half_of(word: u64) -> u64
+    ensures { result ≡ word / 2 + word % 2 * 2 ^ 63 }
+{
+    word / 2 + word % 2 * (1 << 63)
 }
 
 /// Encodes the value as a word, which `decode_wide` decodes again, and `decode` too if its address is below 2^20.

@@ -65,19 +65,6 @@ impl Collection {
         }
     }
 
-    /// Returns the word for the new space: a reference to an original becomes one to its replica.
-    pub(super) fn moved_word(&self, heap: &Heap, word: u64) -> u64
-        requires belongs { BelongsTo heap.now self.now }
-        requires word { IsRootWord heap.now.space.words word }
-        requires replica { HasReplicaWord (collection_in self.now) word }
-        ensures { result ≡ word_of (moved (collection_in self.now) (value_of word)) }
-    {
-        match self.twin_of(heap, word) {
-            Ok(moved) => moved,
-            Err(_original) => word,
-        }
-    }
-
     /// Places a replica at the new end. It has the original's header. Its fields are nil, or those of the original if it is raw.
     #[inline(always)]
     pub(super) fn place_replica(&mut self, heap: &mut Heap, original: OldAddr) -> Result<(), NoRoom>
@@ -120,16 +107,14 @@ impl Collection {
         ensures rest { KeepsRest self.old self.new }
         ensures starts { KeepsStarts self.old.space self.new.space }
     {
-        let Some(target) = target_of(word) else {
-            return Ok(word);
-        };
-        let original = OldAddr(target.0);
-        if let Some(replica) = self.replica_of(heap, original) {
-            return Ok(encode(Value::Ref(Addr(replica.0))));
+        match self.twin_of(heap, word) {
+            Ok(moved) => Ok(moved),
+            Err(original) => {
+                let replica = self.space.end();
+                self.place_replica(heap, original)?;
+                Ok(encode(Value::Ref(Addr(replica))))
+            }
         }
-        let replica = self.space.end();
-        self.place_replica(heap, original)?;
-        Ok(encode(Value::Ref(Addr(replica))))
     }
 
     /// Reads the original's field as it is now, and writes the same nil, number or raw word to the replica. For a reference

@@ -1,11 +1,8 @@
-ghost use Rattle.std.specs.Prelude.{IfSome, ◌≡◌, ◌≤◌, ◌<◌, ℕ, IfOk, IsTrue, length, None, is_none, MatchResult, ⊤};
+ghost use Rattle.std.specs.Prelude.{IfSome, ◌≡◌, ◌≤◌, ◌<◌, ℕ, IfOk, IsTrue, length, None, MatchResult, ⊤};
 ghost use Rattle.gc_model.specs.State.{replica_of};
-ghost use Rattle.std.specs.List.{find};
 ghost use Rattle.std.specs.Option.{option_map};
-ghost use Rattle.gc_words.specs.Word.{value_of};
-ghost use Rattle.gc_graph.specs.Graph.{Ref, names_of, root};
+ghost use Rattle.gc_graph.specs.Graph.{Ref, root};
 ghost use Rattle.gc_words.specs.Image.{is_start};
-ghost use Rattle.gc_words.specs.Closed.{IsRootWord};
 ghost use Rattle.gc_heap.specs.Heap.{graph_in};
 ghost use Rattle.gc_model.specs.Staying.{HasReplicaOf, IsMissing};
 ghost use Rattle.gc_model.specs.Steps.{root_target, roots_done as roots_done_in};
@@ -15,7 +12,7 @@ ghost use Rattle.gc_copy.specs.Twins.{IsTwin};
 use super::Collection;
 use gc_graph::NoMemory;
 use gc_heap::Heap;
-use gc_words::{OldAddr, target_of};
+use gc_words::OldAddr;
 use std::alloc::Global;
 
 /// A root whose target has no replica.
@@ -55,9 +52,8 @@ impl Collection {
         ensures first { IfSome result (λ r. IsMissing (collection_in self.now) (graph_in heap.now) from to r.place r.target.0) }
         ensures start { IfSome result (λ r. IsTrue (is_start heap.now.space.words r.target.0)) }
     {
-        let roots = heap.roots();
         for place in from..to {
-            if let Some(target) = self.target_without_replica(heap, roots[place]) {
+            if let Err(target) = self.root_twin(heap, place) {
                 return Some(MissingRoot { place, target });
             }
         }
@@ -76,21 +72,6 @@ impl Collection {
         self.twin_of(heap, heap.roots()[place])
     }
 
-    /// Returns the object that a word refers to, if it has no replica.
-    fn target_without_replica(&self, heap: &Heap, word: u64) -> Option<OldAddr>
-        requires belongs { BelongsTo heap.now self.now }
-        requires word { IsRootWord heap.now.space.words word }
-        ensures target { option_map (λ a. a.0) result
-            ≡ find (λ (name : ℕ). is_none (replica_of (collection_in self.now) name)) (names_of (value_of word)) }
-        ensures start { IfSome result (λ a. IsTrue (is_start heap.now.space.words a.0)) }
-    {
-        let target = OldAddr(target_of(word)?.0);
-        if self.replica_of(heap, target).is_some() {
-            return None;
-        }
-        Some(target)
-    }
-
     /// Returns the root words for after a flip: each reference leads to the replica instead of the original. Allocates once.
     pub fn new_roots(&self, alloc: Global, heap: &Heap) -> Result<Vec<u64>, NoMemory>
         requires belongs { BelongsTo heap.now self.now }
@@ -99,7 +80,7 @@ impl Collection {
     {
         let mut roots = Vec::with_capacity(alloc, heap.roots().len())?;
         for word in heap.roots() {
-            roots.push_reserved(self.moved_word(heap, *word));
+            roots.push_reserved(self.twin_of(heap, *word).unwrap());
         }
         Ok(roots)
     }

@@ -117,11 +117,11 @@ impl Monitor {
         if self.lost {
             return;
         }
-        if !self.is_taken(a) {
+        if !self.may_be_taken(a) {
             return;
         }
         if !self.is_replica(a, claim) {
-            self.lost = true;
+            self.lose_taken(a);
             return;
         }
         self.set_written(field_index(Addr(claim), i));

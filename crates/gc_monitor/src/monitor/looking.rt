@@ -48,19 +48,17 @@ impl Monitor {
             × (field_place a i < length old.now) × (field_place at i < length new.now)
             × (alike ≡ field_words_correspond h (pairs_in self.now.origins) (slice_index old.now (field_place a i)) (slice_index new.now (field_place at i)))) }
     {
-        let start = at as usize;
-        if start >= new.len() {
+        // Where the new space has the place of the field, it has the replica's header too.
+        let place = field_index(Addr(at), i);
+        if place >= new.len() {
             return None;
         }
-        let field = self.field_of(new[start], at, i)?;
-        if field.place >= new.len() {
-            return None;
-        }
+        let field = self.field_of(new[at as usize], at, i)?;
         let from = field_index(Addr(field.original), i);
         if from >= old.len() {
             return None;
         }
-        Some(self.is_alike(field.header, old[from], new[field.place]))
+        Some(self.is_alike(field.header, old[from], new[place]))
     }
 
     // Field `i` of the replica at `at`, whose header word this is, if there is such a field.

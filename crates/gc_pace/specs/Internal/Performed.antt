@@ -1,5 +1,5 @@
 -- The useful steps that a call has performed so far, if there were any, and the looks that it took to find them.
-use Rattle.std.specs.Prelude.{◌≡◌, ℕ, suc, ◌+◌, ◌-◌, ◌/◌, ◌<◌, ◌≤◌, min, false, Option, Some, None}
+use Rattle.std.specs.Prelude.{◌≡◌, ℕ, suc, ◌+◌, ◌-◌, ◌*◌, ◌/◌, ◌<◌, ◌≤◌, min, false, Option, Some, None}
 use Rattle.std.specs.Option.{option_map_or}
 use Rattle.gc_model.specs.State.{State}
 use Rattle.gc_model.specs.declared.step.StepReply.{StepReply}
@@ -30,7 +30,7 @@ steps_in run = option_map_or (λ (r : StepRun). r.steps) run 0
 -- the looks that a call which took so many may take to choose a step
 abbrev pub at_once : Looks → ℕ → ℕ
 at_once Count taken = 32
-at_once (CountUpTo most) taken = min 32 (most - taken)
+at_once (CountUpTo most) taken = min 32 (2 * most - taken)
 at_once AreFree taken = 4294967295
 
 -- the units of a call in steps and in turns of looks are no more than this

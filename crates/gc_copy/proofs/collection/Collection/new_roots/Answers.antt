@@ -5,8 +5,8 @@ use Rattle.std.proofs.lemmas.List.{drop_all, length-map, length-drop}
 use Rattle.gc_copy.proofs.RootWalks.{all_moved, moved_to, root_has_replica}
 use Rattle.gc_copy.proofs.collection.Collection.new_roots.Goals as goal
 
-pub moved_word-requires-clause-replica : goal.moved_word-requires-clause-replica
-moved_word-requires-clause-replica c = grind (arith, common_steps, root_has_replica)
+pub unwrap-requires : goal.unwrap-requires
+unwrap-requires c = grind (arith, common_steps, root_has_replica)
 
 pub push_reserved-requires : goal.push_reserved-requires
 push_reserved-requires c = grind (arith, common_steps, length-map, moved_to, length-drop, length-append)

@@ -10,29 +10,29 @@ use Rattle.gc_model.specs.State.{replica_of}
 use Rattle.gc_copy.proofs.OpenCollection.{has_placed, placed_address, placed_word}
 use Rattle.gc_copy.proofs.Spaces.{new_end_is}
 use Rattle.gc_copy.proofs.collection.Collection.replicated_word.Goals as goal
-use Rattle.gc_copy.proofs.collection.Collection.replicated_word.Goals.{In_ok-place_replica}
+use Rattle.gc_copy.proofs.collection.Collection.replicated_word.Goals.{In_ok-place_replica-in-Err}
 
 -- the collection before is sound
-sound : (c : goal.In_ok-place_replica) → IsCollection c.args.self.now
+sound : (c : goal.In_ok-place_replica-in-Err) → IsCollection c.args.self.now
 sound c = subst IsCollection c.self.view_is c.self.invariant.0
 
-end_is : (c : goal.In_ok-place_replica) → c.end-replica.result ≡ end_of c.args.self.now.space
+end_is : (c : goal.In_ok-place_replica-in-Err) → c.end-replica.result ≡ end_of c.args.self.now.space
 end_is c = c.end-replica.ensures.value ∙ ap (λ (y : CollectionWords). end_of y.space) c.self.view_is
 
-pub encode-requires-2 : goal.encode-requires-2
-encode-requires-2 c = subst (λ n. (1 ≤ n) × (n < largest_space)) (sym (end_is c)) (placed_address c.args.self.now (collection_in c.place_replica.new.self) _ _ (sound c) c.in_ok-place_replica.ensures.placed)
+pub encode-requires : goal.encode-requires
+encode-requires c = subst (λ n. (1 ≤ n) × (n < largest_space)) (sym (end_is c)) (placed_address c.args.self.now (collection_in c.place_replica.new.self) _ _ (sound c) c.in_ok-place_replica-in-Err.ensures.placed)
 
-pub returns-clause-replica : goal.returns-clause-replica
-returns-clause-replica c = grind (arith, common_steps, has_placed)
+pub returns-in_ok-place_replica-in-Err-clause-replica : goal.returns-in_ok-place_replica-in-Err-clause-replica
+returns-in_ok-place_replica-in-Err-clause-replica c = grind (arith, common_steps, has_placed)
 
-named_is : (c : goal.In_ok-place_replica) → Some c.in-Some.target.0 ≡ name_of (value_of c.args.word)
+named_is : (c : goal.In_ok-place_replica-in-Err) → Some c.in-Err.original.0 ≡ name_of (value_of c.args.word)
 named_is c = grind (arith, common_steps)
 
-none : (c : goal.In_ok-place_replica) → replica_of (collection_in c.args.self.now) c.in-Some.target.0 ≡ None
+none : (c : goal.In_ok-place_replica-in-Err) → replica_of (collection_in c.args.self.now) c.in-Err.original.0 ≡ None
 none c = grind (arith, common_steps)
 
-pub returns-clause-word : goal.returns-clause-word
-returns-clause-word c =
-    let at = (goal.at.returns-clause-word c).In_ok-place_replica in
-    c.encode-2.ensures.word
-    ∙ ap word_of (placed_word (collection_in c.args.self.now) (collection_in c.place_replica.new.self) c.args.word _ _ _ (named_is at) (none at) c.in_ok-place_replica.ensures.placed (end_is at ∙ sym (new_end_is c.args.self.now (sound at).space)))
+pub returns-in_ok-place_replica-in-Err-clause-word : goal.returns-in_ok-place_replica-in-Err-clause-word
+returns-in_ok-place_replica-in-Err-clause-word c =
+    let at = (goal.at.returns-in_ok-place_replica-in-Err-clause-word c).In_ok-place_replica-in-Err in
+    c.encode.ensures.word
+    ∙ ap word_of (placed_word (collection_in c.args.self.now) (collection_in c.place_replica.new.self) c.args.word _ _ _ (named_is at) (none at) c.in_ok-place_replica-in-Err.ensures.placed (end_is at ∙ sym (new_end_is c.args.self.now (sound at).space)))

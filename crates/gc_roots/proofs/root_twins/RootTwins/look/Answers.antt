@@ -1,5 +1,6 @@
 -- The next root is the first without a replica, or it takes its twin.
-use Rattle.std.proofs.Common.{◌≡◌, ◌+◌, ◌∙◌, ap, refl, sym, subst}
+use Rattle.std.proofs.lemmas.Grind.{common_steps}
+use Rattle.std.proofs.Common.{◌≡◌, ◌+◌, ◌∙◌, ap, refl, sym, subst, arith}
 use Rattle.gc_graph.specs.Slots.{roots_of}
 use Rattle.gc_graph.specs.Graph.{root}
 use Rattle.gc_heap.specs.Heap.{graph_in}
@@ -30,4 +31,4 @@ returns-in-Ok-clause-keeps c =
     (subst (λ n. IsTwin (collection_in c.args.collection.now) (root (graph_in c.args.heap.now) (n + c.args.k)) c.in-Ok.word) slots c.in-Ok.ensures.twin) c.requires.keeps)
 
 pub returns-in-Ok-clause-less : goal.returns-in-Ok-clause-less
-returns-in-Ok-clause-less c = looks_once c.args.self.now c.looked.new.self c.trim.new.self c.root_count-slots.result c.args.k c.in-Ok.word c.requires.next c.looked.ensures.looked c.looked.ensures.used c.trim.ensures.rest c.trim.ensures.used.0 c.trim.ensures.used.1
+returns-in-Ok-clause-less c = looks_once c.args.self.now c.looked.new.self c.trim.new.self c.root_count-slots.result c.args.k c.in-Ok.word c.requires.next c.looked.ensures.looked c.looked.ensures.used c.trim.ensures.rest c.trim.ensures.used.0 (grind (arith, common_steps, c.trim.ensures.used.1, c.from.ensures))
