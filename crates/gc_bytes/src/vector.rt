@@ -20,20 +20,28 @@ pub fn read_words(fields: &[u64], at: usize, out: &mut [u64])
     requires inside { at + length out.old ≤ words_for (length fields.now) }
     ensures { out.new ≡ slice_range (words_of fields.now) at (at + length out.old) }
 {
+    let mut tops = words_in(fields.len()) + at / 63;
+    let mut bit = at % 63;
     for k in 0..out.len() {
-        out[k] = word(fields, at + k);
+        out[k] = word(fields, at + k, tops, bit);
+        bit += 1;
+        if bit == 63 {
+            bit = 0;
+            tops += 1;
+        }
     }
 }
 
-// Returns word `i` of the vector.
+// Returns word `i` of the vector. Its top bit is this one of field `tops`.
 #[inline(always)]
-fn word(fields: &[u64], i: usize) -> u64
+fn word(fields: &[u64], i: usize, tops: usize, bit: usize) -> u64
     requires few { length fields.now < 2 ^ 60 }
     requires inside { i < words_for (length fields.now) }
+    requires field { tops ≡ words_for (length fields.now) + i / 63 }
+    requires bit { bit ≡ i % 63 }
     ensures { result ≡ word_at fields.now i }
 {
-    let tops = fields[words_in(fields.len()) + i / 63];
-    fields[i] % (1 << 63) + (((tops >> (i % 63)) % 2) << 63)
+    fields[i] % (1 << 63) + (((fields[tops] >> bit) % 2) << 63)
 }
 
 /// Returns the place of the first field with top bits that changes where words are written over those from word `at` on.

@@ -1,6 +1,6 @@
--- The reply to a call that copies fields; and the copies keep what is known of the roots.
+-- The object that a slot refers to, and the reply to a call that copies fields.
 use Rattle.std.proofs.lemmas.Grind.{common_steps}
-use Rattle.std.proofs.Common.{◌≡◌, ◌<◌, ◌≤◌, ◌+◌, ℕ, zero, suc, List, [], ◌∷◌, length, map, take, drop, Some, None, Option, is_none, is_some, true, false, refl, sym, ap, ◌∙◌, subst, arith}
+use Rattle.std.proofs.Common.{◌≡◌, ◌≤◌, ◌+◌, ℕ, List, [], ◌∷◌, length, map, take, drop, Some, None, Option, is_none, is_some, true, false, refl, sym, ap, ◌∙◌, subst, arith}
 use Rattle.std.specs.Prelude.{slice_range, not, ◌||◌, Bool, cond, ◌&&◌}
 use Rattle.std.specs.List.{list_all}
 use Rattle.std.proofs.lemmas.Bool.{le-leb}
@@ -9,24 +9,17 @@ use Rattle.std.proofs.lemmas.List.Folds.{list_all-map}
 use Rattle.std.proofs.lemmas.Slice.{between_is}
 use Rattle.std.specs.Option.{option_map, option_and_then, unwrap_or}
 use Rattle.gc_graph.specs.Graph.{Nil, Num, Ref, Object, Graph, field_of, lookup, object_of, root, name_of}
-use Rattle.gc_graph.specs.declared.command.Op.TheVariants.{Get, Put}
 use Rattle.gc_graph.specs.declared.reply.Reply.{Reply}
 use Rattle.gc_graph.specs.declared.reply.Reply.TheVariants.{Done, NoNumber}
 use Rattle.gc_graph.specs.Machine.{is_number}
-use Rattle.gc_graph.specs.Slots.{SlotName, place, roots_of}
+use Rattle.gc_graph.specs.Slots.{SlotName, place}
 use Rattle.gc_words.specs.declared.header.Header.{Header}
 use Rattle.gc_words.specs.Word.{value_of, field_value}
 use Rattle.gc_words.specs.Closed.{IsFieldWord}
 use Rattle.gc_words.specs.Image.{Block, block_at, field_at, header_at, header_of, object_of_block}
 use Rattle.gc_words.proofs.Public.{block_of_header, closed_field_read, field_found, fields_counted, object_found}
 use Rattle.gc_heap.specs.Heap.{HeapWords, IsHeap, graph_in}
-use Rattle.gc_model.specs.State.{State}
-use Rattle.gc_model.specs.Steps.{mutate}
-use Rattle.gc_collected.specs.Internal.KnownRoots.{KnowsRoots}
-use Rattle.gc_collected.specs.declared.known.KnownRoots.{KnownRoots}
-use Rattle.gc_collected.specs.Copying.{object_in, copy_reply, copy_step, value_in}
-use Rattle.gc_collected.proofs.Marks.{WritesBelow, forgetting, slot_below, one_below, slot_command, put_knows}
-use Rattle.gc_collected.proofs.NumbersPut.{forgotten}
+use Rattle.gc_collected.specs.Copying.{object_in, copy_reply, value_in}
 
 -- ---- the object that a slot refers to
 
@@ -90,15 +83,3 @@ pub fitting_reply : (to from count first last : ℕ) (target source : Header) (o
     → Some (object_with target old) ≡ object_in g d m → Some (object_with source words) ≡ object_in g s m → to + count ≤ length old → first ≡ from → last ≡ from + count → last ≤ length words
     → taken ≡ (not target.raw || list_all (λ w. is_number (field_value source w)) (slice_range words first last)) → reply ≡ cond taken Done NoNumber → reply ≡ copy_reply to from count (object_in g d m) (object_in g s m)
 fitting_reply to from count first last target source old words g m d s taken reply one other low begin at high asks same = grind (arith, common_steps, list_all-map, range_of_map, le-leb, length-map)
-
--- ---- what is known of the roots
-
-pub copies_know : (count : ℕ) (known : KnownRoots) (s : State) (m i j : ℕ) (d from t : SlotName) → t.index < 16 → m < s.mutators → KnowsRoots known s
-    → KnowsRoots (forgetting known) (copy_step s m d i from j t count)
-copies_know zero known s m i j d from t low less k = forgotten known s k
-copies_know (suc count) known s m i j d from t low less k =
-    let one = mutate s m (Get t from j) in
-    let two = mutate one.1 m (Put d i t) in
-    let below : WritesBelow (roots_of s.mutators) m (Get t from j) = λ q. one_below (place t m) q (roots_of s.mutators) (slot_below t m s.mutators low less) in
-    let got : KnowsRoots (forgetting known) one.1 = slot_command known s m (Get t from j) below k in
-    copies_know count (forgetting known) two.1 m (suc i) (suc j) d from t low less (put_knows (forgetting known) one.1 two.1 m i d t two.0 refl got)

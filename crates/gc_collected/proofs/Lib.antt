@@ -29,10 +29,10 @@ mod Shown
 mod Runs
 mod RunsKnow
 mod Sources
-mod SourcesPut
 mod Starts
 mod Stepped
 mod Texts
+mod ThroughSlot
 mod Together
 mod Unwritten
 mod ValuesPut

@@ -21,13 +21,9 @@ use Rattle.gc_copy.proofs.Public.{idle_left, still_unlinked}
 use Rattle.gc_collected.specs.Internal.KnownRoots.{KnowsRoots}
 use Rattle.gc_collected.specs.Writing.{is_number_word, numbers_step, put_numbers_step}
 use Rattle.gc_collected.specs.declared.known.KnownRoots.{KnownRoots}
-use Rattle.gc_collected.proofs.Marks.{forgetting}
 use Rattle.gc_collected.proofs.OtherCommands.{plain_put_knows}
 
 -- ---- what is known of the roots
-
-pub forgotten : (known : KnownRoots) (s : State) → KnowsRoots known s → KnowsRoots (forgetting known) s
-forgotten known s k = grind (arith, common_steps)
 
 pub numbers_know : (numbers : List ℕ) (known : KnownRoots) (s : State) (m i : ℕ) (d t : SlotName) → t.index < 16 → m < s.mutators → KnowsRoots known s → KnowsRoots known (numbers_step s m d t i numbers)
 numbers_know [] known s m i d t low less k = k

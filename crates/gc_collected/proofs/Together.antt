@@ -94,7 +94,7 @@ noted_next first c next m a i k so_far one =
 
 -- ---- the state
 
-pub performed_one : (heap new : HeapWords) (o : Option Collection) (m : ℕ) (op : Op) (reply : Reply) → IsHeap heap → Performs heap m op reply new → mutate (state_of heap o) m op ≡ (reply, state_of new (logged o m (written (graph_in heap) m op reply)))
+performed_one : (heap new : HeapWords) (o : Option Collection) (m : ℕ) (op : Op) (reply : Reply) → IsHeap heap → Performs heap m op reply new → mutate (state_of heap o) m op ≡ (reply, state_of new (logged o m (written (graph_in heap) m op reply)))
 performed_one heap new o m op reply is p = grind (arith, common_steps)
 
 performed_all : (heap new : HeapWords) (o : Option Collection) (m : ℕ) (ops : List Op) (fields : List (ℕ × ℕ)) → IsHeap heap → PerformsAll heap m ops fields new → mutate_all (state_of heap o) m ops ≡ state_of new (logged o m fields)
@@ -187,7 +187,7 @@ all_ran heap new o m (op ∷ ops) fields is nothing (next, reply, rest, p, sound
     (ran_one (state_of heap o) mid m op reply (performed_one heap next o m op reply is p) nothing.0)
     (all_ran next new (logged o m es) m ops rest sound nothing.1 more))
 
-pub together_ran : (heap new : HeapWords) (o o' : Option CollectionWords) (m : ℕ) (ops : List Op) (fields : List (ℕ × ℕ)) → IsHeap heap → MakeNothing ops → PerformsAll heap m ops fields new → LogsIfOpen o m fields o'
+together_ran : (heap new : HeapWords) (o o' : Option CollectionWords) (m : ℕ) (ops : List Op) (fields : List (ℕ × ℕ)) → IsHeap heap → MakeNothing ops → PerformsAll heap m ops fields new → LogsIfOpen o m fields o'
     → Ran (state_in heap o) (state_in new o') (λ a i. In {X = ℕ × ℕ} (a, i) fields)
 together_ran heap new o o' m ops fields is nothing all l =
     subst (λ (s : State). Ran (state_in heap o) s (λ a i. In {X = ℕ × ℕ} (a, i) fields)) (ap (state_of new) (logged_is o o' m fields l)) (all_ran heap new (option_map collection_in o) m ops fields is nothing all)

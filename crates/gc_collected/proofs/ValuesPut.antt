@@ -2,37 +2,28 @@
 use Rattle.std.proofs.lemmas.Grind.{common_steps}
 use Rattle.std.proofs.lemmas.Option.{slice_get-get_or, slice_get_past}
 use Rattle.std.proofs.lemmas.Bool.{cases_Bool, cases_lt}
-use Rattle.std.proofs.Common.{◌≡◌, inl, inr, ◌≢◌, ℕ, zero, suc, ◌<◌, ◌≤◌, Bool, true, false, List, [], ◌∷◌, ◌++◌, length, get_or, map, Option, Some, None, is_some, refl, sym, ap, ◌∙◌, arith}
-use Rattle.std.specs.Prelude.{IfSome, IsTrue, ◌&&◌, not, if◌then◌else◌, slice_get, slice_set}
+use Rattle.std.proofs.Common.{◌≡◌, inl, inr, ℕ, zero, suc, ◌<◌, ◌≤◌, Bool, true, false, List, [], ◌∷◌, ◌++◌, length, get_or, map, Option, Some, None, refl, sym, ap, ◌∙◌, arith}
+use Rattle.std.specs.Prelude.{IfSome, ◌&&◌, not, if◌then◌else◌, slice_get}
 use Rattle.std.specs.Option.{unwrap_or}
-use Rattle.gc_graph.specs.Graph.{Value, Nil, Num, Ref, Object, Graph, field_of, lookup, names_of, object_of, root, set_field}
-use Rattle.gc_graph.specs.Machine.{is_number, put_field, words_taken}
-use Rattle.gc_graph.specs.Slots.{SlotName, place}
+use Rattle.gc_graph.specs.Graph.{Value, Nil, Num, Ref, Object, Graph, field_of, names_of, object_of, root, set_field}
+use Rattle.gc_graph.specs.Machine.{is_number, put_field}
+use Rattle.gc_graph.specs.Slots.{SlotName}
 use Rattle.gc_graph.specs.declared.command.Op.TheVariants.{Put}
 use Rattle.gc_graph.specs.declared.reply.Reply.{Reply}
 use Rattle.gc_graph.specs.declared.reply.Reply.TheVariants as replies
 use Rattle.gc_graph.proofs.Public.{in_place}
-use Rattle.gc_words.specs.Closed.{IsRootWord, RefersToStart}
-use Rattle.gc_words.specs.Image.{is_start}
-use Rattle.gc_words.specs.Word.{value_of}
-use Rattle.gc_heap.specs.Commands.{Performs}
-use Rattle.gc_heap.specs.Heap.{HeapWords, graph_in}
 use Rattle.gc_heap.specs.Places.{root_at}
 use Rattle.gc_model.specs.State.{Collection, State, heap_end}
 use Rattle.gc_model.specs.Staying.{HasReplicaOf}
 use Rattle.gc_model.specs.Belonging.{IsSpaceGraph}
-use Rattle.gc_model.specs.Steps.{WritesField, logged, mutate, written}
+use Rattle.gc_model.specs.Steps.{logged, mutate, written}
 use Rattle.gc_copy.specs.Twins.{IsTwin}
-use Rattle.gc_copy.specs.Words.{state_of}
 use Rattle.gc_roots.specs.Twins.{twin_at}
 use Rattle.gc_collected.specs.Copying.{object_in}
-use Rattle.gc_collected.specs.Values.{value_of_plain, put_value_step, with_roots}
-use Rattle.gc_collected.specs.declared.values.Plain.{Plain}
-use Rattle.gc_collected.specs.declared.values.Plain.TheVariants as plains
+use Rattle.gc_collected.specs.Values.{put_value_step, with_roots}
 use Rattle.gc_collected.specs.declared.known.KnownRoots.{KnownRoots}
 use Rattle.gc_collected.specs.Internal.KnownRoots.{KnowsRoots}
 use Rattle.gc_collected.proofs.ByPlace.{absent, same_put}
-use Rattle.gc_collected.proofs.Referred.{start_named}
 use Rattle.gc_collected.proofs.Together.{logged_none}
 
 -- ---- a put reads two roots and writes none

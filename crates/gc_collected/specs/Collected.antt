@@ -1,6 +1,6 @@
 -- A collected heap as contracts see it: the core's state, and beside it how its flips are checked, the memory that waits, and what the last flip
 -- left.
-use Rattle.std.specs.Prelude.{Option, None, ◌≡◌, ◌≢◌, ◌⊎◌, ℕ, zero, suc, ◌+◌, ◌-◌, ◌*◌, ◌≤◌, ◌^◌, ◌==◌, ◌&&◌, ◌||◌, not, min, nat_le, nat_lt, Bool, true, false, if◌then◌else◌, is_some}
+use Rattle.std.specs.Prelude.{Option, None, ◌≡◌, ◌≢◌, ◌⊎◌, ℕ, zero, suc, ◌+◌, ◌-◌, ◌^◌, ◌==◌, ◌&&◌, ◌||◌, not, min, nat_le, nat_lt, Bool, true, false, if◌then◌else◌, is_some}
 use Rattle.gc_cert.specs.Grammar.{CertifiedPair}
 use Rattle.gc_copy.specs.Words.{RoomWords, held_in}
 use Rattle.gc_model.specs.State.{State}
@@ -142,13 +142,6 @@ released b = record b { rooms = no_rooms; former = None }
 -- nothing has changed but the memory that waits, and how many looks are left
 abbrev pub IsUnchangedButRooms : Collected → Collected → Type 0
 IsUnchangedButRooms old new = new ≡ record (with_rooms old new.beside.rooms) { roots_left = new.roots_left }
-
--- ---- looks at extra roots
-
--- after so many looks one look less is left for each, or two less where the last extra root in use was found to be nil
-pub record HasLookedOn (looks old new : ℕ) : Type 0 where
-  pub less : new + looks ≤ old
-  pub few : old ≤ new + 2 * looks
 
 -- ---- many flips
 

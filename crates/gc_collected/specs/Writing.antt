@@ -1,13 +1,16 @@
 -- Numbers that are written to a raw object in one call.
-use Rattle.std.specs.Prelude.{ℕ, suc, ◌+◌, ◌^◌, nat_le, nat_lt, Bool, if◌then◌else◌, List, [], ◌∷◌, length, Option, Some, None}
+use Rattle.std.specs.Prelude.{ℕ, suc, ◌+◌, ◌^◌, nat_le, nat_lt, Bool, if◌then◌else◌, List, [], ◌∷◌, length, map, Option, Some, None}
 use Rattle.std.specs.List.{list_all}
 use Rattle.gc_graph.specs.Slots.{SlotName}
 use Rattle.gc_graph.specs.declared.command.Op.TheVariants.{Num, Put}
 use Rattle.gc_graph.specs.declared.reply.Reply.{Reply}
 use Rattle.gc_graph.specs.declared.reply.Reply.TheVariants.{Done, NoObject, NoField, NoNumber}
+use Rattle.gc_heap.specs.Places.{root_at}
 use Rattle.gc_heap.specs.Raws.{raw_numbers}
 use Rattle.gc_model.specs.State.{State}
 use Rattle.gc_model.specs.Steps.{mutate}
+use Rattle.gc_collected.specs.Giving.{gives_step}
+use Rattle.gc_collected.specs.declared.giving.FieldValue.TheVariants.{Number}
 
 abbrev pub is_number_word : ℕ → Bool
 is_number_word w = nat_lt w (2 ^ 63)
@@ -33,3 +36,9 @@ abbrev pub put_numbers_step : State → ℕ → SlotName → ℕ → SlotName �
 put_numbers_step old m s first t words =
     let reply = numbers_reply first words (raw_numbers old.heap.graph s m) in
     (reply, after_reply reply old (numbers_step old m s t first words))
+
+-- the same by places, where each field takes its number through no root
+abbrev pub put_root_numbers_step : State → ℕ → ℕ → ℕ → List ℕ → Reply × State
+put_root_numbers_step old m p first words =
+    let reply = numbers_reply first words (raw_numbers old.heap.graph (root_at p) 0) in
+    (reply, after_reply reply old (gives_step old m p first (map Number words)))

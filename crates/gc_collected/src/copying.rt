@@ -16,9 +16,9 @@ ghost use Rattle.gc_heap.specs.Heap.{graph_in};
 ghost use Rattle.gc_heap.specs.Places.{root_at};
 ghost use Rattle.gc_collected.specs.Internal.Given.{CopiesAll, PutsAll, puts_step, same_from};
 ghost use Rattle.gc_collected.specs.Internal.Follows.{Follows};
-ghost use Rattle.gc_collected.specs.Internal.Together.{PerformsAll, copies, fields_from};
+ghost use Rattle.gc_collected.specs.Internal.Together.{fields_from};
 ghost use Rattle.gc_collected.specs.Internal.CollectedHeap.{BelongsIfOpen, Fits, HasSpare, state_in};
-ghost use Rattle.gc_collected.specs.Copying.{object_in, copy_reply as reply_in, copy_step, copy_fields_step, copy_values_step, fill_fields_step, fill_reply as fill_reply_in, fills_step, value_in, values_step};
+ghost use Rattle.gc_collected.specs.Copying.{object_in, copy_reply as reply_in, copy_fields_step, copy_values_step, fill_fields_step, fill_reply as fill_reply_in, fills_step, value_in, values_step};
 
 use crate::barrier::{are_shown, are_sound_in, note_row, reserve_in};
 use crate::collected_heap::CollectedHeap;
@@ -55,34 +55,25 @@ impl CollectedHeap {
         ensures beside { self.new.beside ≡ self.old.beside }
     {
         // Here the prover learns that the heap is sound, how many roots there are, and that the slot is in range.
-        let _ = self.heap.space();
-        let _ = self.heap.root_places();
+        self.is_sound();
+        let _ = self.root_places();
         let _ = t.index();
-        let reply = copy_reply(
-            &self.heap,
+        let reply = self.copy_root_fields(
+            m,
             d.place(m) as u32,
             u32::from(to),
             s.place(m) as u32,
             u32::from(from),
             u32::from(count),
-        );
+        )?;
         let Reply::Done = reply else {
             return Ok(reply);
         };
-        reserve_in(&mut self.collection, m, usize::from(count))?;
-        self.known.slots = 0;
-        copy_all(
-            &mut self.collection,
-            &mut self.heap,
-            &mut self.watch,
-            m,
-            d,
-            to,
-            s,
-            from,
-            t,
-            count,
-        );
+        if count == 0 {
+            return Ok(reply);
+        }
+        // The last field has the last value.
+        let _got = self.fetch(m, t, d, to + (count - 1));
         Ok(reply)
     }
 }
@@ -93,6 +84,7 @@ impl CollectedHeap {
     /// written is read as it was written. No root changes. Returns `Done`. Or nothing is changed, and the reply is `NoObject` where `d` or `s` refers to
     /// no object, `NoField` where one of the objects has too few fields, or `NoNumber` where the object in `d` is raw and one of the values is no number.
     /// While a collection is open, each field is logged (the write barrier). Only then can the call return `NoMemory`, and the heap is unchanged.
+    #[inline(always)]
     pub fn copy_root_fields(
         &mut self,
         m: u8,
@@ -230,75 +222,6 @@ fn copy_reply(heap: &Heap, d: u32, to: u32, s: u32, from: u32, count: u32) -> Re
         return Reply::NoNumber;
     }
     Reply::Done
-}
-
-// Copies the fields in the heap alone, where the object in `d` takes them.
-fn copy_each(
-    heap: &mut Heap,
-    m: u8,
-    d: Slot,
-    object: OldAddr,
-    to: u16,
-    s: Slot,
-    from: u16,
-    t: Slot,
-    count: u16,
-)
-    requires mutator { m < heap.old.mutators }
-    requires target { to + count ≤ 65535 }
-    requires source { from + count ≤ 65535 }
-    requires apart { (place t m ≢ place d m) × (place t m ≢ place s m) }
-    requires object { root (graph_in heap.old) (place d m) ≡ Ref object.0 }
-    requires takes { reply_in to from count (object_in (graph_in heap.old) d m) (object_in (graph_in heap.old) s m) ≡ Reply.Done }
-    ensures performs { PerformsAll heap.old m (copies d to s from t count) (fields_from object.0 to count) heap.new }
-    ensures mutators { heap.new.mutators ≡ heap.old.mutators }
-{
-    // Here the prover learns that the heap is sound, and the slot in range.
-    let _ = heap.space();
-    let _ = t.index();
-    for k in 0..count {
-        let _got = heap.fetch(m, t, s, from + k);
-        let _put = heap.put(m, d, to + k, t);
-    }
-}
-
-// Copies the fields, where the object in `d` takes them. If a collection is open, logs them, and tells the monitor of all of them at once. Then the
-// log needs room for each of them.
-fn copy_all(
-    collection: &mut Option<Collection>,
-    heap: &mut Heap,
-    watch: &mut Monitor,
-    m: u8,
-    d: Slot,
-    to: u16,
-    s: Slot,
-    from: u16,
-    t: Slot,
-    count: u16,
-)
-    requires belongs { BelongsIfOpen heap.old collection.old }
-    requires mutator { m < heap.old.mutators }
-    requires target { to + count ≤ 65535 }
-    requires source { from + count ≤ 65535 }
-    requires apart { (place t m ≢ place d m) × (place t m ≢ place s m) }
-    requires takes { reply_in to from count (object_in (graph_in heap.old) d m) (object_in (graph_in heap.old) s m) ≡ Reply.Done }
-    requires room { HasSpare collection.old m count }
-    ensures step { copy_step (state_in heap.old collection.old) m d to s from t count ≡ state_in heap.new collection.new }
-    ensures fits { (epoch : ℕ) → Fits epoch heap.old collection.old → Fits epoch heap.new collection.new }
-    ensures mutators { heap.new.mutators ≡ heap.old.mutators }
-    ensures follows { Follows (state_in heap.old collection.old) watch.old → Follows (state_in heap.new collection.new) watch.new }
-{
-    are_sound_in(collection, heap);
-    // Here the prover learns that the heap is sound.
-    let _ = heap.space();
-    let object = heap.target(m, d).unwrap();
-    copy_each(heap, m, d, object, to, s, from, t, count);
-    let Some(collection) = collection else {
-        return;
-    };
-    note_row(collection, m, object, to, count);
-    are_shown(heap, collection);
-    watch.written_row(heap.space().words(), object.0, to, usize::from(count));
 }
 
 // ---- by places

@@ -8,10 +8,9 @@ ghost use Rattle.gc_words.specs.Image.{is_start};
 ghost use Rattle.gc_model.specs.Staying.{IsMissing};
 ghost use Rattle.gc_model.specs.Steps.{root_target};
 ghost use Rattle.gc_copy.specs.Words.{collection_in, open_state, BelongsTo};
-ghost use Rattle.gc_roots.specs.Twins.{IsDone, begun, looks_left};
+ghost use Rattle.gc_roots.specs.Twins.{HasLookedOn, IsDone, begun, looks_left};
 ghost use Rattle.gc_collected.specs.Internal.KnownRoots.{ComparesTwins, HasStored, HasWritten, KnowsRoots, without_slots};
 ghost use Rattle.gc_collected.specs.Internal.Found.{IsAtStart, FindsFirst, IsMissingExtra};
-ghost use Rattle.gc_collected.specs.Collected.{HasLookedOn};
 ghost use Rattle.gc_collected.specs.declared.known.Found.{Found};
 
 use gc_copy::{Collection, MissingRoot};
@@ -247,11 +246,41 @@ fn search_extra(
                 looks += 1;
             }
         }
+        // One root alone may be known because the last step has copied its target; then the target of the next one lacks a replica.
+        let ahead = if looks == 1 { 0 } else { most - looks };
+        looks += look_on(collection, heap, watch, known, ahead);
     }
     Searched {
         looks,
         found: Found::AllKnown,
     }
+}
+
+/// Looks at the extra roots behind those that were looked at, up to the first whose target has no replica, and at no more than `most`. Looks at none
+/// if one has to be looked at again. The monitor compares them. Returns their number.
+fn look_on(
+    collection: &Collection,
+    heap: &Heap,
+    watch: &Monitor,
+    known: &mut KnownRoots,
+    most: u32,
+) -> u32
+    requires belongs { BelongsTo heap.now collection.now }
+    requires knows { KnowsRoots known.old (open_state heap.now collection.now) }
+    ensures knows { KnowsRoots known.new (open_state heap.now collection.now) }
+    ensures compares { ComparesTwins known.old → ComparesTwins known.new }
+    ensures looks { HasLookedOn result (looks_left known.old.twins) (looks_left known.new.twins) }
+    ensures within { result ≤ most }
+{
+    if most == 0 {
+        return 0;
+    }
+    let at = known.twins.look_on(heap, collection, most);
+    let slots = root_count(heap.mutators());
+    known
+        .looks
+        .look_on(watch, heap.roots(), known.twins.words(), slots, at);
+    at.to - at.from
 }
 
 /// Searches the roots that are not known to have replicas of their targets, up to the first without, as `search_within` does, and however many extra

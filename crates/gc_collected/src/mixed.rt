@@ -1,25 +1,14 @@
 //! Makes objects whose fields take numbers and the values of slots.
 
-ghost use Rattle.std.specs.Prelude.{ℕ, ◌≡◌, ◌≢◌, ◌<◌, ◌≤◌, ◌+◌, ◌++◌, List, length, get_or, is_some, IfOk, IfSome, OnErr, IsSome};
-ghost use Rattle.gc_graph.specs.Slots.{place};
-ghost use Rattle.gc_graph.specs.declared.command.Op.{Op};
-ghost use Rattle.gc_heap.specs.Filling.{TakesFields};
-ghost use Rattle.gc_heap.specs.Heap.{HeapWords};
-ghost use Rattle.gc_copy.specs.Words.{spare_of};
-ghost use Rattle.gc_collected.specs.Internal.Follows.{Follows};
+ghost use Rattle.std.specs.Prelude.{◌≡◌, ◌≢◌, ◌<◌, ◌≤◌, ◌+◌, List, None, length, get_or, take, IfOk, OnErr, IsSome};
+ghost use Rattle.gc_graph.specs.Slots.{place, roots_of};
+ghost use Rattle.gc_collected.specs.Internal.Sources.{last_number_of, slot_by_place, sources_by_place};
 ghost use Rattle.gc_collected.specs.Mixed.{new_with_step};
 ghost use Rattle.gc_collected.specs.declared.mixed.FieldSource.{FieldSource};
-ghost use Rattle.gc_collected.specs.Internal.CollectedHeap.{BelongsIfOpen, Fits, HasSpare, state_in};
-ghost use Rattle.gc_collected.specs.Internal.Sources.{source_fields, source_ops, sources_fields, sources_ops};
-ghost use Rattle.gc_collected.specs.Internal.Together.{Logs, LogsIfOpen, PerformsAll};
 
-use crate::barrier::{are_sound_in, reserve_in};
 use crate::collected_heap::CollectedHeap;
-use gc_copy::{Collection, heaps_have_addresses_as_names};
+use crate::giving::{FieldValue, ValueRow};
 use gc_graph::{NoMemory, Number, Reply, Slot};
-use gc_heap::Heap;
-use gc_monitor::Monitor;
-use gc_words::OldAddr;
 
 /// What a field of a new object takes.
 #[derive(Clone, Copy, Debug, Drop)]
@@ -74,150 +63,81 @@ impl CollectedHeap {
         ensures mutators { self.new.core.mutators ≡ self.old.core.mutators }
         ensures beside { self.new.beside ≡ self.old.beside }
     {
-        // Here the prover learns that the heap is sound, and the slots in range.
-        let _ = self.heap.space();
-        let _ = d.index();
-        let _ = t.index();
-        let is_open = self.collection.is_some();
-        reserve_in(&mut self.collection, m, usize::from(fields.count()))?;
-        self.known.slots = 0;
-        Ok(make_mixed(
-            &mut self.collection,
-            &mut self.heap,
-            &mut self.watch,
-            is_open,
-            m,
-            d,
-            kind,
-            t,
+        // Here the prover learns how many roots there are.
+        let _ = self.root_places();
+        let row = SourcesByPlace {
             fields,
-        ))
-    }
-}
-
-// Makes an object and fills it, as `new_with` does. If a collection is open, which `is_open` says, logs each field that is filled; then the log
-// needs room for them. A new object has no replica, so the monitor is told of the object alone.
-#[inline(always)]
-fn make_mixed<R: SourceRow>(
-    collection: &mut Option<Collection>,
-    heap: &mut Heap,
-    watch: &mut Monitor,
-    is_open: bool,
-    m: u8,
-    d: Slot,
-    kind: u8,
-    t: Slot,
-    fields: &R,
-) -> Reply
-    requires belongs { BelongsIfOpen heap.old collection.old }
-    requires open { is_open ≡ is_some collection.old }
-    requires mutator { m < heap.old.mutators }
-    requires apart { place t m ≢ place d m }
-    requires row { R.is_row fields.now }
-    requires room { HasSpare collection.old m (length (R.sources fields.now)) }
-    ensures step { new_with_step (state_in heap.old collection.old) m d kind t (R.sources fields.now) ≡ (result, state_in heap.new collection.new) }
-    ensures fits { (epoch : ℕ) → Fits epoch heap.old collection.old → Fits epoch heap.new collection.new }
-    ensures mutators { heap.new.mutators ≡ heap.old.mutators }
-    ensures follows { Follows (state_in heap.old collection.old) watch.old → Follows (state_in heap.new collection.new) watch.new }
-{
-    heaps_have_addresses_as_names();
-    are_sound_in(collection, heap);
-    // Here the prover learns that the heap is sound.
-    let _ = heap.space();
-    let object = OldAddr(heap.space().end());
-    let count = fields.count();
-    let made = heap.new_object(m, d, kind, count);
-    if let Reply::Full = made {
-        return made;
-    }
-    fill_each(heap, m, d, object, t, fields);
-    note_sources(collection, is_open, m, object, fields);
-    watch.made(heap.space().words());
-    made
-}
-
-// Fills the fields of the new object in `d`, in the heap alone.
-fn fill_each<R: SourceRow>(heap: &mut Heap, m: u8, d: Slot, object: OldAddr, t: Slot, fields: &R)
-    requires mutator { m < heap.old.mutators }
-    requires apart { place t m ≢ place d m }
-    requires row { R.is_row fields.now }
-    requires takes { TakesFields heap.old (place d m) object.0 (length (R.sources fields.now)) }
-    ensures performs { PerformsAll heap.old m (sources_ops d t 0 (R.sources fields.now)) (sources_fields object.0 0 (R.sources fields.now)) heap.new }
-    ensures mutators { heap.new.mutators ≡ heap.old.mutators }
-{
-    for i in 0..fields.count() {
-        fill_one(heap, m, d, object, t, i, fields.source(i));
-    }
-}
-
-// Fills one field of the new object in `d`, in the heap alone.
-#[inline(always)]
-fn fill_one(heap: &mut Heap, m: u8, d: Slot, object: OldAddr, t: Slot, i: u16, source: FieldSource)
-    requires mutator { m < heap.old.mutators }
-    requires apart { place t m ≢ place d m }
-    requires field { (len : ℕ) × TakesFields heap.old (place d m) object.0 len × (i < len) }
-    ensures performs { (ops : List Op) (fields : List (ℕ × ℕ)) (new : HeapWords) → PerformsAll heap.new m ops fields new
-        → PerformsAll heap.old m (source_ops d t i source ++ ops) (source_fields object.0 i source ++ fields) new }
-    ensures mutators { heap.new.mutators ≡ heap.old.mutators }
-    ensures takes { (len : ℕ) → TakesFields heap.old (place d m) object.0 len → TakesFields heap.new (place d m) object.0 len }
-{
-    // Here the prover learns that the heap is sound.
-    let _ = heap.space();
-    match source {
-        FieldSource::Nil => {}
-        FieldSource::Number(n) => {
-            let _set = heap.num(m, t, n);
-            let _put = heap.fill_field(m, d, object, i, t);
+            m,
+            t: t.place(m) as u32,
+        };
+        let made = self.new_given(m, d.place(m) as u32, kind, &row)?;
+        if let Reply::Full = made {
+            return Ok(made);
         }
-        FieldSource::Slot(s) => {
-            let _put = heap.fill_field(m, d, object, i, s);
+        let Some(n) = last_number(fields, fields.count()) else {
+            return Ok(made);
+        };
+        let _set = self.num(m, t, n);
+        Ok(made)
+    }
+}
+
+// What the fields take by places, where no number goes through the slot `t` at this place. A field that takes slot `t` takes the number that went
+// through it last.
+#[derive(Drop)]
+struct SourcesByPlace<'a, R> {
+    fields: &'a R,
+    m: u8,
+    t: u32,
+}
+
+impl<R: SourceRow> ValueRow for SourcesByPlace<'_, R> {
+    ghost is_row = { λ row roots. R.is_row row.fields.now × (roots_of (row.m + 1) ≤ roots) };
+
+    ghost values = { λ row. sources_by_place row.m row.t None (R.sources row.fields.now) };
+
+    #[inline(always)]
+    fn count(&self) -> u16 {
+        self.fields.count()
+    }
+
+    #[inline(always)]
+    fn value(&self, i: u16) -> FieldValue {
+        match self.fields.source(i) {
+            FieldSource::Nil => FieldValue::Nil,
+            FieldSource::Number(n) => FieldValue::Number(n),
+            FieldSource::Slot(s) => held(self.fields, i, self.t, s.place(self.m) as u32),
         }
     }
 }
 
-// Logs the fields of this object that are filled, if a collection is open, which `is_open` says. Needs room in the log.
+// What the slot at place `p` holds when field `i` takes its value: the slot at place `t` has the last number of the fields before.
 #[inline(always)]
-fn note_sources<R: SourceRow>(
-    collection: &mut Option<Collection>,
-    is_open: bool,
-    m: u8,
-    object: OldAddr,
-    fields: &R,
-)
-    requires open { is_open ≡ is_some collection.old }
-    requires log { IfSome collection.old (λ c. m < length c.logs) }
+fn held<R: SourceRow>(fields: &R, i: u16, t: u32, p: u32) -> FieldValue
     requires row { R.is_row fields.now }
-    requires room { HasSpare collection.old m (length (R.sources fields.now)) }
-    ensures { LogsIfOpen collection.old m (sources_fields object.0 0 (R.sources fields.now)) collection.new }
+    requires inside { i < length (R.sources fields.now) }
+    ensures { result ≡ slot_by_place t (last_number_of None (take i (R.sources fields.now))) p }
 {
-    if is_open {
-        note_each(collection.as_mut().unwrap(), m, object, fields);
+    if p == t
+        && let Some(n) = last_number(fields, i)
+    {
+        return FieldValue::Number(n);
     }
+    FieldValue::Root(p)
 }
 
-// Logs the fields of this object that are filled. Needs room in the log.
-#[inline(never)]
-fn note_each<R: SourceRow>(collection: &mut Collection, m: u8, object: OldAddr, fields: &R)
-    requires log { m < length collection.old.logs }
+// The last number among so many of the first fields.
+fn last_number<R: SourceRow>(fields: &R, count: u16) -> Option<Number>
     requires row { R.is_row fields.now }
-    requires room { length (R.sources fields.now) ≤ spare_of collection.old m }
-    ensures { Logs collection.old m (sources_fields object.0 0 (R.sources fields.now)) collection.new }
+    requires inside { count ≤ length (R.sources fields.now) }
+    ensures { result ≡ last_number_of None (take count (R.sources fields.now)) }
 {
-    for i in 0..fields.count() {
-        note_one(collection, m, object, i, fields.source(i));
+    let mut i = count;
+    while i > 0 {
+        i -= 1;
+        if let FieldSource::Number(n) = fields.source(i) {
+            return Some(n);
+        }
     }
-}
-
-// Logs this field of the object, unless it takes nothing. Needs room in the log.
-#[inline(always)]
-fn note_one(collection: &mut Collection, m: u8, object: OldAddr, i: u16, source: FieldSource)
-    requires log { m < length collection.old.logs }
-    requires room { 1 ≤ spare_of collection.old m }
-    ensures logs { Logs collection.old m (source_fields object.0 i source) collection.new }
-    ensures spare { spare_of collection.old m ≤ spare_of collection.new m + 1 }
-{
-    match source {
-        FieldSource::Nil => {}
-        _ => collection.note(m, object, i),
-    }
+    None
 }

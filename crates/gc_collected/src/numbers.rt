@@ -1,6 +1,7 @@
 //! Makes raw objects whose fields take numbers, and writes numbers to the fields of raw objects. Both go by places and through no root.
 
 ghost use Rattle.std.specs.Prelude.{ℕ, ◌≡◌, ◌≢◌, ◌<◌, ◌≤◌, ◌+◌, ◌^◌, List, Some, IfOk, IfSome, IsSome, IsTrue, OnErr, get_or, length};
+ghost use Rattle.std.specs.List.{list_all};
 ghost use Rattle.std.specs.Option.{option_map};
 ghost use Rattle.gc_graph.specs.Graph.{Ref, root};
 ghost use Rattle.gc_graph.specs.declared.command.Op.{Op};
@@ -14,6 +15,7 @@ ghost use Rattle.gc_model.specs.State.{heap_end};
 ghost use Rattle.gc_model.specs.Steps.{mutate};
 ghost use Rattle.gc_roots.specs.Twins.{AsksForLook};
 ghost use Rattle.gc_collected.specs.Numbers.{new_numbers_step};
+ghost use Rattle.gc_collected.specs.Writing.{is_number_word, put_root_numbers_step};
 ghost use Rattle.gc_collected.specs.Internal.CollectedHeap.{BelongsIfOpen, Fits, HasSpare, state_in};
 ghost use Rattle.gc_collected.specs.Internal.Follows.{Follows};
 ghost use Rattle.gc_collected.specs.Internal.Given.{PutsAll};
@@ -23,6 +25,7 @@ use crate::barrier::{are_shown, are_sound_in, note_row, reserve_in};
 use crate::collected_heap::CollectedHeap;
 use crate::copying::{Found, object};
 use crate::places::has_made;
+use crate::writing::are_numbers;
 use gc_copy::{Collection, heaps_have_addresses_as_names};
 use gc_graph::{NoMemory, Reply, root_count};
 use gc_heap::Heap;
@@ -66,6 +69,52 @@ impl CollectedHeap {
         Some(numbers)
     }
 
+    /// Writes these numbers to the fields of the raw object that root `s` refers to, from field `first` on. This is mutator `m`'s `put_plain` for each
+    /// number, in rising order, so no root changes. Returns `Done`. Or nothing is changed, and the reply is `NoObject` where root `s` refers to no raw object,
+    /// `NoField` where the object has too few fields, or `NoNumber` where one of the words is no number. While a collection is open, each field is logged (the
+    /// write barrier). Only then can the call return `NoMemory`, and the heap is unchanged.
+    pub fn put_root_numbers(
+        &mut self,
+        m: u8,
+        s: u32,
+        first: u32,
+        words: &[u64],
+    ) -> Result<Reply, NoMemory>
+        requires mutator { m < self.old.core.mutators }
+        requires object { s < length self.old.core.heap.graph.roots }
+        ensures step { IfOk result (λ reply. put_root_numbers_step self.old.core m s first words.now ≡ (reply, self.new.core)) }
+        ensures refused { OnErr result (self.new ≡ self.old) }
+        ensures open { OnErr result (IsSome self.old.core.collection) }
+        ensures mutators { self.new.core.mutators ≡ self.old.core.mutators }
+        ensures beside { self.new.beside ≡ self.old.beside }
+        ensures looks { IfOk result (λ _. self.new.roots_left ≡ self.old.roots_left) }
+    {
+        // Here the prover learns that the heap is sound.
+        let _ = self.heap.space();
+        let Some((object, header, numbers)) = raw_object(&self.heap, s) else {
+            return Ok(Reply::NoObject);
+        };
+        if first as usize + words.len() > numbers.len() {
+            return Ok(Reply::NoField);
+        }
+        if !are_numbers(words) {
+            return Ok(Reply::NoNumber);
+        }
+        reserve_in(&mut self.collection, m, words.len())?;
+        write_numbers(
+            &mut self.collection,
+            &mut self.heap,
+            &mut self.watch,
+            m,
+            s,
+            object,
+            header,
+            first as u16,
+            &Numbers { words },
+        );
+        Ok(Reply::Done)
+    }
+
     /// Makes a raw object of this kind whose fields take these numbers, and sets root `d` to a reference to it. This is a `new_raw_at_root` followed, in
     /// rising order, by mutator `m`'s `put_plain` for each number, in one call. Returns `Made`, or `Full` if there is no room; then nothing has changed.
     /// Returns `NoMemory` only while a collection is open; the heap is then unchanged.
@@ -105,6 +154,30 @@ impl CollectedHeap {
         self.known
             .took_if(has_made(&made), d, root_count(self.heap.mutators()));
         Ok(made)
+    }
+}
+
+// Numbers that are given one behind the other.
+#[derive(Drop)]
+struct Numbers<'a> {
+    words: &'a [u64],
+}
+
+impl NumberRow for Numbers<'_> {
+    ghost names = { λ row. (0, 0) };
+
+    ghost is_row = { λ row sources. (length row.words.now ≤ 65535) × IsTrue (list_all is_number_word row.words.now) };
+
+    ghost numbers = { λ row sources. row.words.now };
+
+    #[inline(always)]
+    fn count(&self) -> u16 {
+        self.words.len() as u16
+    }
+
+    #[inline(always)]
+    fn number(&self, heap: &Heap, i: u16) -> u64 {
+        self.words[usize::from(i)]
     }
 }
 

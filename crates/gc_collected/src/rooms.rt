@@ -38,14 +38,15 @@ impl CollectedHeap {
         self.former.as_ref()
     }
 
-    /// Frees all memory that waits: what the last flip left, the spare room, and what is given back. The heap and an open collection stay as they are. The
-    /// next collection allocates its space.
+    /// Frees all memory that waits: what the last flip left, the spare room, and what is given back. The allocator can also give the pages behind the heap's
+    /// end back. The heap and an open collection stay as they are. The next collection allocates its space.
     pub fn release(&mut self)
         ensures { self.new ≡ record self.old { beside = released self.old.beside } }
     {
         self.former = None;
         self.spare = None;
         self.leaving = None;
+        self.heap.release();
     }
 
     /// Frees some of the memory that no collection will use, if there is any: at most 32,768 words of it. The heap stays as it is.

@@ -48,7 +48,8 @@ impl CollectedHeap {
     ghost use Rattle.gc_model.specs.declared.step.StepReply.{StepReply};
     ghost use Rattle.gc_monitor.specs.Claims.{Accepts};
     ghost use Rattle.gc_monitor.specs.Tables.{Tables};
-    ghost use Rattle.gc_collected.specs.Collected.{BeginsIn, HasLookedOn, HasStepped, IsUnchangedButRooms, WereRefused, checks_whole, rooms_flipped, rooms_given_up, turns_after};
+    ghost use Rattle.gc_roots.specs.Twins.{HasLookedOn};
+    ghost use Rattle.gc_collected.specs.Collected.{BeginsIn, HasStepped, IsUnchangedButRooms, WereRefused, checks_whole, rooms_flipped, rooms_given_up, turns_after};
     ghost use Rattle.gc_collected.specs.CollectedHeap.{Allocates};
     ghost use Rattle.gc_collected.specs.Flip.{FlipsOnly, FormerAfter, HasAccepted, HasRoomIfLarge, IsCertified, PassesIfReady, new_size, pair_after};
 

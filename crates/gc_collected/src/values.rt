@@ -1,13 +1,13 @@
 //! Commands by places that set a root or a field to nil or to a number. No other root takes the value.
 
-ghost use Rattle.std.specs.Prelude.{ℕ, List, ◌≡◌, ◌<◌, length, IfOk, OnErr, IsSome};
+ghost use Rattle.std.specs.Prelude.{ℕ, List, ◌≡◌, ◌<◌, ◌≤◌, ◌-◌, length, IfOk, OnErr, IsSome};
 ghost use Rattle.gc_graph.specs.declared.command.Op.{Op};
 ghost use Rattle.gc_words.specs.Closed.{IsRootWord};
 ghost use Rattle.gc_words.specs.Word.{value_of};
 ghost use Rattle.gc_heap.specs.Places.{root_at};
 ghost use Rattle.gc_model.specs.Steps.{mutate};
 ghost use Rattle.gc_roots.specs.Twins.{AskForLooks};
-ghost use Rattle.gc_collected.specs.Values.{value_of_plain, put_value_step};
+ghost use Rattle.gc_collected.specs.Values.{clear_roots_step, value_of_plain, put_value_step};
 ghost use Rattle.gc_collected.specs.Internal.CollectedHeap.{BelongsIfOpen, Fits, HasSpare, state_in};
 ghost use Rattle.gc_collected.specs.Internal.Follows.{Follows};
 
@@ -43,6 +43,19 @@ impl CollectedHeap {
         let _ = self.heap.space();
         self.known.took_nil(d, root_count(self.heap.mutators()));
         self.heap.nil_root(d)
+    }
+
+    /// Sets the roots from root `from` on, and below root `to`, to nil, each by a `Nil`, in rising order. Does not allocate, and logs nothing.
+    pub fn clear_roots(&mut self, from: u32, to: u32)
+        requires { to ≤ length self.old.core.heap.graph.roots }
+        ensures step { clear_roots_step self.old.core from (to - from) ≡ self.new.core }
+        ensures mutators { self.new.core.mutators ≡ self.old.core.mutators }
+        ensures beside { self.new.beside ≡ self.old.beside }
+        ensures looks { AskForLooks (to - from) self.old.roots_left self.new.roots_left }
+    {
+        for p in from..to {
+            let _done = self.nil_root(p);
+        }
     }
 
     /// Writes nil or a number to field `i` of the object that root `s` refers to, as mutator `m`'s `Put` of a root that holds it. No root changes. Returns

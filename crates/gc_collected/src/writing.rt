@@ -66,8 +66,8 @@ impl CollectedHeap {
     }
 }
 
-// Whether all words are numbers.
-fn are_numbers(words: &[u64]) -> bool
+/// Returns whether all words are numbers.
+pub(crate) fn are_numbers(words: &[u64]) -> bool
     ensures { result ≡ list_all is_number_word words.now }
 {
     // A loop without a branch for each word, which the compiler turns into vector code.

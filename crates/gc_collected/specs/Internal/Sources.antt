@@ -1,28 +1,33 @@
--- The commands by which fields take numbers and the values of slots, and the fields that these commands write.
-use Rattle.std.specs.Prelude.{ℕ, suc, List, [], ◌∷◌, ◌++◌}
-use Rattle.gc_graph.specs.Slots.{SlotName}
-use Rattle.gc_graph.specs.declared.command.Op.{Op}
-use Rattle.gc_graph.specs.declared.command.Op.TheVariants as ops
+-- Fields that take numbers and the values of slots, as fields that take numbers and the values of roots.
+use Rattle.std.specs.Prelude.{ℕ, ◌==◌, if◌then◌else◌, List, [], ◌∷◌, Option, Some, None}
+use Rattle.gc_graph.specs.Slots.{place}
+use Rattle.gc_collected.specs.declared.giving.FieldValue.{FieldValue}
+use Rattle.gc_collected.specs.declared.giving.FieldValue.TheVariants as values
 use Rattle.gc_collected.specs.declared.mixed.FieldSource.{FieldSource}
 use Rattle.gc_collected.specs.declared.mixed.FieldSource.TheVariants as sources
 
--- the commands by which field i takes its value
-abbrev pub source_ops : SlotName → SlotName → ℕ → FieldSource → List Op
-source_ops d t i sources.Nil = []
-source_ops d t i (sources.Number n) = ops.Num t n ∷ ops.Put d i t ∷ []
-source_ops d t i (sources.Slot v) = ops.Put d i v ∷ []
+-- the last number after this field, given the last one before it
+abbrev pub last_after : Option ℕ → FieldSource → Option ℕ
+last_after before (sources.Number n) = Some n
+last_after before source = before
 
--- and so on, from field i on
-abbrev pub sources_ops : SlotName → SlotName → ℕ → List FieldSource → List Op
-sources_ops d t i [] = []
-sources_ops d t i (source ∷ rest) = source_ops d t i source ++ sources_ops d t (suc i) rest
+-- and after these fields
+abbrev pub last_number_of : Option ℕ → List FieldSource → Option ℕ
+last_number_of before [] = before
+last_number_of before (source ∷ rest) = last_number_of (last_after before source) rest
 
--- field i of the object at a is written, unless it stays nil
-abbrev pub source_fields : ℕ → ℕ → FieldSource → List (ℕ × ℕ)
-source_fields a i sources.Nil = []
-source_fields a i source = (a, i) ∷ []
+-- the value of the slot at place p, where the slot at place q has taken this number, if there was one
+abbrev pub slot_by_place : ℕ → Option ℕ → ℕ → FieldValue
+slot_by_place q None p = values.Root p
+slot_by_place q (Some n) p = if p == q then values.Number n else values.Root p
 
--- and so on, from field i on
-abbrev pub sources_fields : ℕ → ℕ → List FieldSource → List (ℕ × ℕ)
-sources_fields a i [] = []
-sources_fields a i (source ∷ rest) = source_fields a i source ++ sources_fields a (suc i) rest
+-- what mutator m's field takes, by places
+abbrev pub source_by_place : ℕ → ℕ → Option ℕ → FieldSource → FieldValue
+source_by_place m q before sources.Nil = values.Nil
+source_by_place m q before (sources.Number n) = values.Number n
+source_by_place m q before (sources.Slot v) = slot_by_place q before (place v m)
+
+-- and so on for these fields
+abbrev pub sources_by_place : ℕ → ℕ → Option ℕ → List FieldSource → List FieldValue
+sources_by_place m q before [] = []
+sources_by_place m q before (source ∷ rest) = source_by_place m q before source ∷ sources_by_place m q (last_after before source) rest

@@ -2,7 +2,7 @@
 use Rattle.std.specs.Prelude.{◌≡◌, ℕ, zero, suc, List, [], ◌∷◌, ◌++◌, Option, Some, None, ⊤}
 use Rattle.gc_graph.specs.Slots.{SlotName}
 use Rattle.gc_graph.specs.declared.command.Op.{Op}
-use Rattle.gc_graph.specs.declared.command.Op.TheVariants.{Get, Put}
+use Rattle.gc_graph.specs.declared.command.Op.TheVariants.{Put}
 use Rattle.gc_graph.specs.declared.reply.Reply.{Reply}
 use Rattle.gc_heap.specs.Commands.{Performs}
 use Rattle.gc_heap.specs.Heap.{HeapWords, IsHeap, graph_in}
@@ -41,8 +41,3 @@ fields_from a i (suc n) = (a, i) ∷ fields_from a (suc i) n
 abbrev pub puts : SlotName → ℕ → List SlotName → List Op
 puts d i [] = []
 puts d i (t ∷ rest) = Put d i t ∷ puts d (suc i) rest
-
--- a `Get` into t and a `Put` of t for each of so many fields, from field j of the object in s on, into those from i on of the object in d
-abbrev pub copies : SlotName → ℕ → SlotName → ℕ → SlotName → ℕ → List Op
-copies d i s j t zero = []
-copies d i s j t (suc count) = Get t s j ∷ Put d i t ∷ copies d (suc i) s (suc j) t count

@@ -14,6 +14,6 @@ returns c =
     let back = length-drop at (words_of f) in
     let part = length-take (at + n - at) (drop at (words_of f)) in
     ext_get_or 0 c.loop-k.out (take (at + n - at) (drop at (words_of f))) (omega (arith, c.loop-k.auto.out, c.requires.inside)) (λ i less.
-    c.loop-k.invariant i (omega (arith, c.loop-k.auto.out, c.loop-k-test.false, c.loop-k.auto.k-end))
+    c.loop-k.invariant.copied i (omega (arith, c.loop-k.auto.out, c.loop-k-test.false, c.loop-k.auto.k-end))
     ∙ sym (word_is f (at + i) (omega (arith, c.loop-k.auto.out, c.requires.inside)))
     ∙ sym (get_or-take (at + n - at) (drop at (words_of f)) i 0 (omega (arith, c.loop-k.auto.out)) ∙ get_or-drop at (words_of f) i 0))

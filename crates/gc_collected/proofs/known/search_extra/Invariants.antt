@@ -1,8 +1,7 @@
 -- The row is right after each look, and each look leaves one less, or two.
 use Rattle.std.proofs.Common.{◌≤◌}
 use Rattle.gc_copy.specs.Words.{open_state}
-use Rattle.gc_roots.specs.Twins.{looks_left}
-use Rattle.gc_collected.specs.Collected.{HasLookedOn}
+use Rattle.gc_roots.specs.Twins.{HasLookedOn, looks_left}
 use Rattle.gc_collected.specs.Internal.KnownRoots.{ComparesTwins, KnowsRoots}
 use Rattle.gc_collected.proofs.known.search_extra.Given as goal
 

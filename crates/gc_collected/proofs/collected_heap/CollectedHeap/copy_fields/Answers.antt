@@ -1,32 +1,32 @@
--- The copies write fields and one slot, so what is known of extra roots is still true; room in a log changes no state.
-use Rattle.std.proofs.Common.{◌<◌, sym, subst, arith}
+-- The fields take their values through no root, and the slot takes that of the last field.
+use Rattle.std.proofs.Common.{◌≡◌, sym, ap, ◌∙◌, arith}
+use Rattle.gc_graph.specs.Slots.{place}
+use Rattle.gc_graph.specs.declared.reply.Reply.{Reply}
 use Rattle.gc_model.specs.State.{State}
-use Rattle.gc_collected.specs.Internal.CollectedHeap.{state_in}
-use Rattle.gc_collected.specs.Internal.KnownRoots.{KnowsRoots}
-use Rattle.gc_collected.proofs.Copies.{copies_know}
-use Rattle.gc_collected.proofs.Core.{core_is}
-use Rattle.gc_collected.proofs.Marks.{forgetting}
-use Rattle.gc_collected.proofs.OtherCommands.{it_belongs}
-use Rattle.gc_collected.proofs.Parts.{still_known}
+use Rattle.gc_collected.specs.Copying.{copy_values_step}
+use Rattle.gc_collected.proofs.CopiesDone.{fields_fit}
+use Rattle.gc_collected.proofs.Marks.{slot_below}
+use Rattle.gc_collected.proofs.ThroughSlot.{copied_through}
 use Rattle.gc_collected.proofs.collected_heap.CollectedHeap.copy_fields.Goals as goal
+use Rattle.gc_collected.proofs.collected_heap.CollectedHeap.copy_fields.Goals.{In_ok-reply}
 
-pub invariant_of-self : goal.invariant_of-self
-invariant_of-self c = still_known c.self.inside.epoch c.self.inside.known c.self.inside.heap c.self.inside.collection c.reserve_in.new.collection c.self.inside.watch c.self.inside.along c.reserve_in.ensures.same c.reserve_in.ensures.fits c.self.invariant
+-- the call by places
+by_places : (c : In_ok-reply) → copy_values_step c.args.self.now.core c.args.m (place c.args.d c.args.m) c.args.to (place c.args.s c.args.m) c.args.from c.args.count ≡ (c.in_ok-reply.reply, c.copy_root_fields.new.self.core)
+by_places c =
+    (λ k. copy_values_step c.args.self.now.core c.args.m (sym c.place.ensures.value k) (sym c.from.ensures k) (sym c.place-2.ensures.value k) (sym c.from-2.ensures k) (sym c.from-3.ensures k))
+    ∙ c.in_ok-reply.ensures.step
 
-pub copy_all-requires-clause-belongs : goal.copy_all-requires-clause-belongs
-copy_all-requires-clause-belongs c = it_belongs c.self.inside.epoch c.self.inside.heap c.reserve_in.new.collection (c.reserve_in.ensures.fits c.self.inside.epoch c.self.inside.heap c.self.invariant.0.0)
+pub overflow_add-to : goal.overflow_add-to
+overflow_add-to c =
+    let s = c.args.self.now.core in
+    let said = ap (λ (x : Reply × State). x.0) (by_places (goal.at.overflow_add-to c).In_ok-reply) ∙ c.in-Done.is in
+    let fit = fields_fit s.size s.heap.free s.heap.graph c.args.m c.args.to c.args.from c.args.count c.args.d c.args.s c.is_sound.ensures.heap said in
+    omega (arith, fit)
 
-pub invariant_of-self-2 : goal.invariant_of-self-2
-invariant_of-self-2 c =
-    let heap = c.self.inside.heap in
-    let p = c.reserve_in.new.collection in
-    let less : c.args.m < heap.mutators = subst (λ (s : State). c.args.m < s.mutators) (sym (core_is c.self.view_is)) c.requires.mutator in
-    let k = still_known c.self.inside.epoch c.self.inside.known heap c.self.inside.collection p c.self.inside.watch c.self.inside.along c.reserve_in.ensures.same c.reserve_in.ensures.fits c.self.invariant in (
-      (
-        c.copy_all.ensures.fits c.self.inside.epoch (k.0).0,
-        subst (KnowsRoots (forgetting c.self.inside.known)) c.copy_all.ensures.step
-            (copies_know c.args.count c.self.inside.known (state_in heap p) c.args.m c.args.to c.args.from c.args.d c.args.s c.args.t (omega (arith, c.index.ensures.value, c.index.ensures.bound)) less (k.0).1),
-        (k.0).2,
-      ),
-      λ on. c.copy_all.ensures.follows (k.1 on),
-    )
+pub returns-clause-step : goal.returns-clause-step
+returns-clause-step c =
+    let s = c.args.self.now.core in
+    let low = slot_below c.args.t c.args.m s.mutators (omega (arith, c.index.ensures.value, c.index.ensures.bound)) c.requires.mutator in
+    copied_through c.args.m c.args.d c.args.s c.args.t c.requires.target c.requires.source s c.copy_root_fields.new.self.core c.fetch-got.new.self.core c.args.to c.args.from c.args.count c.in_ok-reply.reply c.fetch-got.ensures.fetches.0
+    (omega (arith, c.place.ensures.value, c.place.ensures.bound, c.root_places.ensures.count, c.root_places.ensures.slots, c.requires.mutator)) (omega (arith, low, c.root_places.ensures.count, c.root_places.ensures.slots))
+    (by_places (goal.at.returns-clause-step c).In_ok-reply) c.in-Done.is (omega (arith, c.if-count-eq0.false)) c.fetch-got.ensures.fetches.1

@@ -1,30 +1,42 @@
--- The object and its numbers and slots' values leave what is known of extra roots true.
-use Rattle.std.proofs.Common.{◌<◌, sym, subst, arith}
-use Rattle.gc_model.specs.State.{State}
-use Rattle.gc_collected.specs.Internal.CollectedHeap.{state_in}
-use Rattle.gc_collected.proofs.Core.{core_is}
-use Rattle.gc_collected.proofs.OtherCommands.{it_belongs}
-use Rattle.gc_collected.proofs.Parts.{still_known}
-use Rattle.gc_collected.proofs.SourcesPut.{with_knows}
+-- The fields take their values by places, and the slot takes the last number.
+use Rattle.std.proofs.Common.{◌≡◌, None, sym, ap, ◌∙◌, arith}
+use Rattle.std.proofs.lemmas.List.{take_all}
+use Rattle.gc_graph.specs.Slots.{place}
+use Rattle.gc_collected.specs.Giving.{new_given_step}
+use Rattle.gc_collected.specs.Internal.Sources.{last_number_of, sources_by_place}
+use Rattle.gc_collected.proofs.Sources.{keeping, keeps_number, made_mixed, none_mixed}
 use Rattle.gc_collected.proofs.collected_heap.CollectedHeap.new_with.Goals as goal
+use Rattle.gc_collected.proofs.collected_heap.CollectedHeap.new_with.Goals.{After-last_number, In_ok-made}
 
-pub invariant_of-self : goal.invariant_of-self
-invariant_of-self g c = still_known c.self.inside.epoch c.self.inside.known c.self.inside.heap c.self.inside.collection c.reserve_in.new.collection c.self.inside.watch c.self.inside.along c.reserve_in.ensures.same c.reserve_in.ensures.fits c.self.invariant
+-- the call by places
+by_places : (g : _) (c : In_ok-made g) → new_given_step c.args.self.now.core c.args.m (place c.args.d c.args.m) c.args.kind (sources_by_place c.args.m (place c.args.t c.args.m) None (g.R.SourceRow.sources c.args.fields.now)) ≡ (c.in_ok-made.made, c.new_given.new.self.core)
+by_places g c =
+    (λ k. new_given_step c.args.self.now.core c.args.m (sym c.place-2.ensures.value k) c.args.kind (sources_by_place c.args.m (sym c.place.ensures.value k) None (g.R.SourceRow.sources c.args.fields.now)))
+    ∙ c.in_ok-made.ensures.step
 
-pub make_mixed-requires-clause-belongs : goal.make_mixed-requires-clause-belongs
-make_mixed-requires-clause-belongs g c = it_belongs c.self.inside.epoch c.self.inside.heap c.reserve_in.new.collection (c.reserve_in.ensures.fits c.self.inside.epoch c.self.inside.heap c.self.invariant.0.0)
+-- the last number of all fields
+last : (g : _) (c : After-last_number g) → last_number_of None (g.R.SourceRow.sources c.args.fields.now) ≡ c.last_number.result
+last g c = let all = g.R.SourceRow.sources c.args.fields.now in sym (c.last_number.ensures ∙ ap (last_number_of None) (take_all c.count.result all (omega (arith, c.count.ensures))))
 
-pub invariant_of-self-2 : goal.invariant_of-self-2
-invariant_of-self-2 g c =
-    let heap = c.self.inside.heap in
-    let p = c.reserve_in.new.collection in
-    let all = c.make_mixed in
-    let less : c.args.m < heap.mutators = subst (λ (s : State). c.args.m < s.mutators) (sym (core_is c.self.view_is)) c.requires.mutator in
-    let k = still_known c.self.inside.epoch c.self.inside.known heap c.self.inside.collection p c.self.inside.watch c.self.inside.along c.reserve_in.ensures.same c.reserve_in.ensures.fits c.self.invariant in (
-      (
-        all.ensures.fits c.self.inside.epoch (k.0).0,
-        with_knows c.self.inside.known (state_in heap p) (state_in all.new.heap all.new.collection) c.args.m c.args.kind c.args.d c.args.t (g.R.SourceRow.sources c.args.fields.now) all.result (omega (arith, c.index.ensures.value, c.index.ensures.bound)) (omega (arith, c.index-2.ensures.value, c.index-2.ensures.bound)) less all.ensures.step (k.0).1,
-        (k.0).2,
-      ),
-      λ on. all.ensures.follows (k.1 on),
-    )
+pub returns-in-Full-clause-step : goal.returns-in-Full-clause-step
+returns-in-Full-clause-step g c =
+    none_mixed c.args.m c.args.d c.args.t c.requires.apart c.args.self.now.core c.new_given.new.self.core c.args.kind (g.R.SourceRow.sources c.args.fields.now) c.in_ok-made.made (by_places g (goal.at.returns-in-Full-clause-step g c).In_ok-made) c.in-Full.is
+
+pub returns-in_default-last_number-clause-step : goal.returns-in_default-last_number-clause-step
+returns-in_default-last_number-clause-step g c =
+    let mid = c.new_given.new.self.core in
+    let none = last g (goal.at.returns-in_default-last_number-clause-step g c).After-last_number ∙ c.in_default-last_number.is in
+    made_mixed c.args.m c.args.d c.args.t c.requires.apart c.args.self.now.core mid mid c.args.kind (g.R.SourceRow.sources c.args.fields.now) c.in_ok-made.made
+    (omega (arith, c.place-2.ensures.value, c.place-2.ensures.bound, c.root_places.ensures.count, c.root_places.ensures.slots, c.requires.mutator))
+    (omega (arith, c.place.ensures.value, c.place.ensures.bound, c.root_places.ensures.count, c.root_places.ensures.slots, c.requires.mutator))
+    (by_places g (goal.at.returns-in_default-last_number-clause-step g c).In_ok-made) c.in_default.not-Full (ap (keeping mid (place c.args.t c.args.m)) none)
+
+pub returns-clause-step : goal.returns-clause-step
+returns-clause-step g c =
+    let mid = c.new_given.new.self.core in
+    let some = last g (goal.at.returns-clause-step g c).After-last_number ∙ c.in-Some.is in
+    made_mixed c.args.m c.args.d c.args.t c.requires.apart c.args.self.now.core mid c.num-set.new.self.core c.args.kind (g.R.SourceRow.sources c.args.fields.now) c.in_ok-made.made
+    (omega (arith, c.place-2.ensures.value, c.place-2.ensures.bound, c.root_places.ensures.count, c.root_places.ensures.slots, c.requires.mutator))
+    (omega (arith, c.place.ensures.value, c.place.ensures.bound, c.root_places.ensures.count, c.root_places.ensures.slots, c.requires.mutator))
+    (by_places g (goal.at.returns-clause-step g c).In_ok-made) c.in_default.not-Full
+    (keeps_number mid c.num-set.new.self.core c.args.m c.in-Some.n c.args.t c.num-set.result _ some c.num-set.ensures.step)

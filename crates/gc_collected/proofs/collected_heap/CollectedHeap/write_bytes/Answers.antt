@@ -1,7 +1,6 @@
 -- Numbers for fields change no root, so all that is known of the roots is still true; room in a log changes no state.
-use Rattle.std.proofs.Common.{◌≡◌, ◌<◌, ◌≤◌, ◌+◌, ◌/◌, List, ℕ, length, map, is_some, ap, sym, subst, ◌∙◌, arith}
+use Rattle.std.proofs.Common.{◌/◌, map, is_some, ap, sym, subst, ◌∙◌}
 use Rattle.gc_model.specs.State.{State}
-use Rattle.gc_collected.specs.Giving.{gives_step}
 use Rattle.gc_collected.specs.declared.giving.FieldValue.TheVariants.{Number}
 use Rattle.gc_collected.specs.Internal.CollectedHeap.{state_in}
 use Rattle.gc_collected.specs.Internal.KnownRoots.{KnowsRoots}

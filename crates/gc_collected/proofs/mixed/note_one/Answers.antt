@@ -1,9 +1,0 @@
--- A field that stays nil is not logged.
-use Rattle.std.proofs.Common.{sym, subst}
-use Rattle.gc_collected.specs.Internal.Sources.{source_fields}
-use Rattle.gc_collected.specs.Internal.Together.{Logs}
-use Rattle.gc_collected.proofs.Together.{noted_none}
-use Rattle.gc_collected.proofs.mixed.note_one.Goals as goal
-
-pub returns-in-Nil-clause-logs : goal.returns-in-Nil-clause-logs
-returns-in-Nil-clause-logs c = subst (λ x. Logs c.args.collection.now c.args.m (source_fields c.args.object.0 c.args.i x) c.args.collection.now) (sym c.in-Nil.is) (noted_none c.args.collection.now c.args.m)
