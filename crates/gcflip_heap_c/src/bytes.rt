@@ -9,7 +9,8 @@ ghost use Rattle.gc_collected.specs.Bytes.{bytes_in, join_step, part_step, text_
 ghost use Rattle.gc_collected.specs.Numbers.{new_numbers_step};
 ghost use Rattle.gcflip_heap_c.specs.Commands.{IsCall, IsCommandCall};
 ghost use Rattle.gcflip_heap_c.specs.Places.{HasRoots};
-ghost use Rattle.gcflip_heap_c.specs.Raws.{Reads, TellsNumber};
+ghost use Rattle.gcflip_heap_c.specs.Raws.{Reads};
+ghost use Rattle.gc_in_c.specs.Telling.{TellsNumber};
 ghost use Rattle.gcflip_heap_c.specs.Bytes.{TellsOrder, TellsSame, order_in_c};
 
 use crate::answer::{DONE, NO_FIELD, NO_OBJECT, OUT_OF_RANGE};

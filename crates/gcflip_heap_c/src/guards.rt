@@ -1,10 +1,13 @@
 //! The guards of the exports. Each stands at the head of an export, which returns C's number of the refusal where it fails.
 
-/// Lends the heap of a handle. An export whose handle has no heap returns `CLOSED`.
+/// Lends the heap of a handle. An export whose handle has no heap returns `CLOSED`, in the form that is given.
 macro_rules! lent {
-    ($handle:ident) => {{
+    ($handle:ident) => {
+        $crate::guards::lent!($handle, $crate::answer::CLOSED)
+    };
+    ($handle:ident, $refusal:expr) => {{
         if $handle.is_empty() {
-            return $crate::answer::CLOSED;
+            return $refusal;
         }
         $handle.heap_mut()
     }};

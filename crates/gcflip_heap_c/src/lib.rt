@@ -21,11 +21,13 @@ mod referring;
 mod reply;
 mod room;
 mod rows;
+pub mod seen;
 mod slots;
 mod stepping;
 mod words;
 mod work;
 
+// `seen` is public as a whole: if its names stood here too, the formatter would give each name a line of its own.
 pub use bytes::{
     gcflip_bytes_compare, gcflip_bytes_join, gcflip_bytes_length, gcflip_bytes_part,
     gcflip_bytes_read, gcflip_bytes_same, gcflip_bytes_write, gcflip_new_bytes,
@@ -53,14 +55,17 @@ pub use places::{
     gcflip_put_nil, gcflip_put_number, gcflip_put_sure, gcflip_same, gcflip_set_nil,
     gcflip_set_number,
 };
-pub use raws::{gcflip_address, gcflip_heap_address, gcflip_heap_raw_read, gcflip_heap_raw_write};
+pub use raws::{
+    gcflip_address, gcflip_heap_address, gcflip_heap_raw_read, gcflip_heap_raw_write,
+    gcflip_raw_read, gcflip_raw_write,
+};
 pub use reading::{
     GcflipLogEntry, gcflip_heap_counts, gcflip_heap_image, gcflip_heap_log_entry,
     gcflip_heap_log_length, gcflip_heap_new_words,
 };
 pub use referring::{gcflip_field_at, gcflip_heap_refer, gcflip_object_at, gcflip_refer};
 pub use room::{gcflip_collect, gcflip_release, gcflip_reserve, gcflip_room};
-pub use rows::{gcflip_gather, gcflip_new_from, gcflip_new_pair, gcflip_spread};
+pub use rows::{gcflip_clear, gcflip_gather, gcflip_new_from, gcflip_new_pair, gcflip_spread};
 pub use stepping::{
     GcflipStep, gcflip_heap_step_apply, gcflip_heap_step_begin, gcflip_heap_step_begin_sized,
     gcflip_heap_step_flip, gcflip_heap_step_give_up, gcflip_heap_step_roots, gcflip_heap_step_scan,

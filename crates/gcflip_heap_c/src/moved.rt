@@ -4,7 +4,7 @@ ghost use Rattle.std.specs.Prelude.{◌≡◌, ◌≢◌, IsSome, IsSomeAnd};
 ghost use Rattle.gc_check.specs.InC.{no_memory, IsRefusal};
 ghost use Rattle.gc_copy.specs.Words.{moved_in};
 ghost use Rattle.gcflip_heap_c.specs.Commands.{IsCall};
-ghost use Rattle.gcflip_heap_c.specs.Raws.{TellsNumber};
+ghost use Rattle.gc_in_c.specs.Telling.{TellsNumber};
 
 use crate::answer::{DONE, NO_OBJECT, OUT_OF_RANGE};
 use crate::guards::lent;

@@ -46,8 +46,8 @@ pub extern "C" fn gcflip_heap_pace(heap: &mut GcflipHeap, pace: &mut Pace) -> u3
 }
 
 /// Performs the useful steps that are due before the program allocates `wanted` words, and writes a report of them to `work`. Stops early
-/// for the reasons of `gcflip_heap_work` and, if the pace bounds the words, once it performed as many units, or took as many looks, or its replicas took
-/// as many words. The pace keeps the steps that are left then.
+/// for the reasons of `gcflip_heap_work` and, if the pace bounds the words, once it performed as many units, or took twice as many looks, or its replicas
+/// took as many words. The pace keeps the steps that are left then.
 #[unsafe(no_mangle)]
 pub extern "C" fn gcflip_heap_work_paced(
     heap: &mut GcflipHeap,

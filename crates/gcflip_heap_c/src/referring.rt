@@ -4,25 +4,23 @@
 ghost use Rattle.std.specs.Prelude.{◌≡◌, ◌≢◌, ◌∷◌, [], ⊤};
 ghost use Rattle.gc_check.specs.InC.{no_memory, IsRefusal};
 ghost use Rattle.gc_graph.specs.Graph.{lookup};
-ghost use Rattle.gc_graph.specs.Machine.{view_of};
-ghost use Rattle.gc_words.specs.Views.{graph_value};
 ghost use Rattle.gc_heap.specs.Places.{root_at};
 ghost use Rattle.gc_collected.specs.Referring.{refer_step};
 ghost use Rattle.gc_collected.specs.Viewing.{view_at};
 ghost use Rattle.gc_collected.specs.Spreading.{AskForRow};
 ghost use Rattle.gcflip_heap_c.specs.Commands.{IsCall, IsCommandCall};
 ghost use Rattle.gcflip_heap_c.specs.Places.{HasRoots};
-ghost use Rattle.gcflip_heap_c.specs.Raws.{TellsField, value_in_c};
+ghost use Rattle.gc_in_c.specs.Telling.{TellsField};
 ghost use Rattle.gc_in_c.specs.Replies.{seen_in_c, view_in_c};
 ghost use Rattle.gcflip_heap_c.specs.Slots.{NamesSlots, numbered_slot};
 
 use crate::answer::{NO_FIELD, OUT_OF_RANGE};
 use crate::guards::{lent, lent_to, slot_named};
 use crate::handle::GcflipHeap;
-use gc_collected::CollectedHeap;
-use gc_graph::{Reply, View};
+use crate::seen::field_seen;
+use gc_graph::Reply;
 use gc_in_c::{GcflipView, of_look, of_reply};
-use gc_words::{OldAddr, Value};
+use gc_words::OldAddr;
 
 /// Puts a reference to the object that starts at this address into slot `d`. Returns 18 if no object starts there; the slot then keeps its
 /// value. Takes constant time where the standing checker goes along, and else walks over the objects before the address.
@@ -88,36 +86,9 @@ pub extern "C" fn gcflip_field_at(
     ensures beside { heap.new.beside ≡ heap.old.beside }
 {
     let heap = lent!(heap);
-    tell_field(heap, OldAddr(address), i, view)
-}
-
-// Tells the value in field `i` of the object at this address.
-fn tell_field(heap: &CollectedHeap, address: OldAddr, i: u32, view: &mut GcflipView) -> u32
-    ensures tells { TellsField heap.now.core.heap.graph.objects (lookup heap.now.core.heap.graph.objects address.0) i view.old view.new result }
-    ensures made { ¬ IsRefusal result }
-{
-    if !heap.has_object(address) {
-        return of_look(&Reply::Saw(View::Nil), view);
+    let seen = field_seen(heap, OldAddr(address), i);
+    if u32::from(seen.answer) != NO_FIELD {
+        *view = seen.view();
     }
-    match heap.field_at(address, i) {
-        None => NO_FIELD,
-        Some(value) => tell_value(heap, value, view),
-    }
-}
-
-// Tells a value, with the address of its object.
-fn tell_value(heap: &CollectedHeap, value: Value, view: &mut GcflipView) -> u32
-    ensures answer { result ≡ seen_in_c (view_of heap.now.core.heap.graph.objects (graph_value value)) }
-    ensures view { view.new ≡ value_in_c heap.now.core.heap.graph.objects (graph_value value) }
-    ensures made { ¬ IsRefusal result }
-{
-    match value {
-        Value::Nil => of_look(&Reply::Saw(View::Nil), view),
-        Value::Num(n) => of_look(&Reply::Saw(View::Num(n)), view),
-        Value::Ref(at) => {
-            let seen = of_look(&Reply::Saw(heap.view_at(OldAddr(at.0))), view);
-            view.number = u64::from(at.0);
-            seen
-        }
-    }
+    u32::from(seen.answer)
 }

@@ -1,17 +1,18 @@
-//! The exports by places that make an object of several roots, or set several roots to the fields of one.
+//! The exports by places that make an object of several roots, or set several roots, to the fields of one or to nil.
 
-ghost use Rattle.std.specs.Prelude.{◌≡◌, ◌≢◌, ◌⊎◌, ◌<◌, ◌≤◌, ◌+◌, ◌↔◌, ◌∷◌, [], IsSomeAnd, IsSome, IsTrue, length, map};
+ghost use Rattle.std.specs.Prelude.{◌≡◌, ◌≢◌, ◌⊎◌, ◌<◌, ◌≤◌, ◌+◌, ◌-◌, ◌↔◌, ◌∷◌, [], IsSomeAnd, IsSome, IsTrue, length, map};
 ghost use Rattle.std.specs.List.{AllByRecursion};
-ghost use Rattle.gc_check.specs.InC.{no_memory};
+ghost use Rattle.gc_check.specs.InC.{done, no_memory};
 ghost use Rattle.gc_graph.specs.Limits.{kinds, lengths};
 ghost use Rattle.gc_heap.specs.Places.{root_at};
 ghost use Rattle.gc_collected.specs.CollectedHeap.{new_from_step, roots_from};
 ghost use Rattle.gc_collected.specs.Spreading.{spread_step};
 ghost use Rattle.gc_collected.specs.Spreading.{AskForRow};
-ghost use Rattle.gcflip_heap_c.specs.Commands.{IsCommandCall};
+ghost use Rattle.gc_collected.specs.Values.{clear_roots_step};
+ghost use Rattle.gcflip_heap_c.specs.Commands.{IsCall, IsCommandCall};
 ghost use Rattle.gcflip_heap_c.specs.Places.{HasRootRange, HasRoots};
 
-use crate::answer::OUT_OF_RANGE;
+use crate::answer::{DONE, OUT_OF_RANGE};
 use crate::guards::lent;
 use crate::handle::GcflipHeap;
 use gc_collected::{CollectedHeap, RootRow};
@@ -161,4 +162,21 @@ pub extern "C" fn gcflip_spread(heap: &mut GcflipHeap, first: u32, s: u32, count
         return OUT_OF_RANGE;
     }
     of_reply(&heap.spread(first, s, count))
+}
+
+/// Puts nil into the roots from root `from` on, and below root `to`.
+#[unsafe(no_mangle)]
+pub extern "C" fn gcflip_clear(heap: &mut GcflipHeap, from: u32, to: u32) -> u32
+    ensures call { IsCall (λ state. (from ≤ to) × (to ≤ length state.heap.graph.roots))
+        (λ old new. (result ≡ done) × (clear_roots_step old from (to - from) ≡ new)) heap.old.state heap.new.state result }
+    ensures memory { result ≢ no_memory }
+    ensures beside { heap.new.beside ≡ heap.old.beside }
+    ensures looks { (heap.old.roots_left ≤ heap.new.roots_left) × (heap.new.roots_left ≤ heap.old.roots_left + (to - from)) }
+{
+    let heap = lent!(heap);
+    if from > to || to as usize > heap.root_places() {
+        return OUT_OF_RANGE;
+    }
+    heap.clear_roots(from, to);
+    DONE
 }
