@@ -12,14 +12,14 @@ use Rattle.gc_words.specs.Space.{SpaceWords, IsSpace, end_of, with_field_at, wit
 use Rattle.gc_words.specs.declared.header.Header.{Header}
 use Rattle.gc_words.proofs.Public.{field_read, field_written, header_read, written_back}
 use Rattle.gc_monitor.specs.Tables.{Tables}
-use Rattle.gc_model.specs.State.{new_end, objects_end}
+use Rattle.gc_model.specs.State.{new_end, objects_end, replica_of}
 use Rattle.gc_model.proofs.Public.{placed}
 use Rattle.gc_concurrent.specs.declared.copier.Copier.{Copier}
 use Rattle.gc_concurrent.specs.Ends.{Known, Theirs, its}
 use Rattle.gc_concurrent.specs.Nearing.{ComesNearer}
 use Rattle.gc_concurrent.specs.Internal.Copiers.{KeepsSeat, Nears}
 use Rattle.gc_concurrent.specs.Internal.Following.{Follows, WroteEach}
-use Rattle.gc_concurrent.specs.Internal.Rule.{CatchesUp, Loose, Sat, seeing}
+use Rattle.gc_concurrent.specs.Internal.Rule.{CatchesUp, Loose, Sat, StartsThere, seeing}
 use Rattle.gc_concurrent.proofs.Told.{put_field}
 use Rattle.gc_concurrent.proofs.Seeing.{some_header, whole_seen}
 use Rattle.gc_concurrent.proofs.Following.{through, catches_up_follows}
@@ -43,11 +43,16 @@ keeps_seen a b c seen e k = record {
   writes = ap (λ (m : Sat). m.0.writes) e ∙ k.writes;
   mine = ap (λ (m : Sat). m.0.mine) e ∙ k.mine;
   begun = record { base = ap (λ (m : Sat). m.0.theirs.base) e ∙ k.begun.base; from = ap (λ (m : Sat). m.0.theirs.old) e ∙ k.begun.from; into = ap (λ (m : Sat). m.0.theirs.size) e ∙ k.begun.into };
+  replicas = λ x there. subst (λ (t : Theirs). IsSome (replica_of (its t) x)) (sym (theirs_seen b c seen e)) (k.replicas x there);
+  starts = λ writes there. subst (λ (m : Sat). StartsThere m.0.mine m.0.theirs) (sym e) (k.starts writes there);
   holds = ap (λ (m : Sat). m.1) e ∙ k.holds;
 }
 
 pub nears_seen : (a b c : Sat) (seen : List ℕ) → c ≡ seeing seen b → Nears a b → Nears a c
-nears_seen a b c seen e n writes = subst (λ (t : Theirs). ComesNearer (length a.0.mine.space.words) a.0.theirs t) (sym (theirs_seen b c seen e)) (n writes)
+nears_seen a b c seen e n = (
+  (λ writes. subst (ComesNearer (length a.0.mine.space.words) a.0.theirs) (sym (theirs_seen b c seen e)) (n.0 writes)),
+  subst (ComesNearer a.0.theirs.size a.0.theirs) (sym (theirs_seen b c seen e)) n.1,
+)
 
 pub loose_seen : (b c : Sat) (seen : List ℕ) → c ≡ seeing seen b → ∥ Loose b.0.theirs ∥₁ → ∥ Loose c.0.theirs ∥₁
 loose_seen b c seen e l = subst (λ (t : Theirs). ∥ Loose t ∥₁) (sym (theirs_seen b c seen e)) l

@@ -154,7 +154,7 @@ brought_fits size s r name i v = let e = end_brought r.theirs name i v in let f 
 
 -- a value read that lacks a replica is wanted
 want : (size : ℕ) (s : St) (r : IsConcurrent size s) (k id : ℕ) (me : Sat) (name : ℕ) → get_elem? s.views id ≡ some me.0 → me.0.copies ≡ true
-    → is_some (block_at r.mine.space.words name) ≡ true → MayBeCopied r.theirs.base name → (r.mine.logs ≡ false → ⊥)
+    → is_some (block_at r.mine.space.words name) ≡ true → MayBeCopied r.mine.base name → (r.mine.logs ≡ false → ⊥)
     → IsConcurrent size (stepped s k (get_or s.words k 0) id me.1 (record me.0 { theirs = wants name r.theirs }) keeps)
 want size s r k id me name seat copies start allowed works =
     theirs_keep size s r k id me.0 me.1 (wants name r.theirs) seat copies refl

@@ -1,5 +1,5 @@
 -- With both ends at hand and nothing due, the state is ready in gc_model's sense, and a space that holds the replicas is a heap.
-use Rattle.std.proofs.Common.{◌≡◌, ℕ, zero, suc, ◌<◌, ◌&&◌, true, List, [], ◌∷◌, map, Option, Some, None, is_some, refl, ap, sym, ◌∙◌, subst, inl, ⊎_elim, arith}
+use Rattle.std.proofs.Common.{◌≡◌, ℕ, zero, suc, ◌<◌, ◌&&◌, true, false, List, [], ◌∷◌, map, Option, Some, None, is_some, refl, ap, sym, ◌∙◌, subst, inl, ⊎_elim, arith}
 use Rattle.std.specs.Prelude.{◌^◌, slice_get}
 use Rattle.std.specs.Option.{unwrap_or, option_map, option_map_or}
 use Rattle.std.proofs.lemmas.Bool.{eqb-true}
@@ -28,6 +28,7 @@ use Rattle.gc_concurrent.specs.Ends.{Mine, Theirs}
 use Rattle.gc_concurrent.specs.Internal.Plans.{collection_of, plan}
 use Rattle.gc_concurrent.specs.Heaps.{heap_of}
 use Rattle.gc_concurrent.specs.Unreachable.{CopiesNothingUnreachable}
+use Rattle.gc_concurrent.proofs.Keeping.{kept_out}
 use Rattle.gc_concurrent.specs.Internal.Rule.{IsConcurrent, Sat}
 use Rattle.gc_concurrent.specs.Ends.{its}
 use Rattle.gc_concurrent.specs.Internal.Flip.{Flips, Holds, roots_alone, moved_words, new_heap_of, tells_flip}
@@ -73,7 +74,7 @@ still_belongs objects m t x y k =
     k.scan (λ a i e. absurd (never_logged t.size t.replicas t a i e)) k.numbers
 
 module _ (m : Mine) (t : Theirs) (roots : List ℕ) (heap_is : IsHeap (heap_of m roots)) (h : IsOpened (plan m t) (collection_of m t)) (logged : m.log ≡ []) (applied : t.due ≡ [])
-    (scanned : scan_done (its t) ≡ true) (rooted : roots_done (its t) (roots_alone roots) ≡ true) (carried : CopiesNothingUnreachable t) where
+    (scanned : scan_done (its t) ≡ true) (rooted : roots_done (its t) (roots_alone roots) ≡ true) (carried : m.base.referred ≡ false → CopiesNothingUnreachable t) where
   old : IsSpaceGraph m.space.size (free_in m.space) (graph_in (heap_of m roots))
   old = heap_graph (heap_of m roots) heap_is
 
@@ -204,6 +205,6 @@ flips_rule slots size k id me writes copies s r _ seat _ =
         λ roots fine done. subst (λ (x : Mine × Theirs). Flips roots x.0 x.1) (λ i. (sym mine i, sym theirs i))
             (flips_there r.mine r.theirs roots (subst (λ (m : Mine). IsHeap (heap_of m roots)) mine fine) r.opened
             (ap (λ (m : Mine). m.log) (sym mine) ∙ done.logged) (ap (λ (t : Theirs). t.due) (sym theirs) ∙ done.applied)
-            (subst (λ (t : Theirs). scan_done (its t) ≡ true) theirs done.scanned) (subst (λ (t : Theirs). roots_done (its t) (roots_alone roots) ≡ true) theirs done.rooted) r.carries.copied),
+            (subst (λ (t : Theirs). scan_done (its t) ≡ true) theirs done.scanned) (subst (λ (t : Theirs). roots_done (its t) (roots_alone roots) ≡ true) theirs done.rooted) (kept_out r.mine r.theirs r.carries)),
       ),
     )

@@ -14,7 +14,7 @@ use Rattle.gc_words.specs.declared.header.Header.{Header}
 use Rattle.gc_words.proofs.Public.{field_read, field_written, stands_in, written_back, some_of}
 use Rattle.gc_monitor.specs.Tables.{Tables}
 use Rattle.gc_monitor.specs.Telling.{Tells}
-use Rattle.gc_monitor.specs.Watch.{IsSeen, front}
+use Rattle.gc_monitor.specs.Watch.{IsSeen}
 use Rattle.gc_monitor.specs.Events.{Saw, PlacedBy, Looked, Wrote, HasNoReplica, code_of, object_codes}
 use Rattle.gc_monitor.specs.Origins.{pairs_in}
 use Rattle.gc_monitor.specs.Claims.{IsPassedField, ShowsField}
@@ -35,7 +35,7 @@ pub seeing_on : (a b c : Sat) (seen : List ℕ) → b ≡ seeing b.0.seen a → 
 seeing_on a b c seen first second = second ∙ ap (seeing seen) first ∙ ap (λ ws. seeing ws a) (sym (ap (λ (m : Sat). m.0.seen) second))
 
 -- two words of one header are one
-same_word : (v w : ℕ) (h : Header) → read_header v ≡ Some h → read_header w ≡ Some h → v ≡ w
+pub same_word : (v w : ℕ) (h : Header) → read_header v ≡ Some h → read_header w ≡ Some h → v ≡ w
 same_word v w h e f = sym (written_back v h e).1 ∙ (written_back w h f).1
 
 one_header : (w : ℕ) (g h : Header) → read_header w ≡ Some g → read_header w ≡ Some h → g ≡ h
@@ -72,29 +72,41 @@ original_seen t seen new b i word fine is has follows =
     field_kept seen n part whole a i None e some = absurd (let wrong : false ≡ true = some in cc)
     field_kept seen n part whole a i (Some b) e some = ap (λ o. is_some (field_in o i)) (found_in_all n seen part whole a b e) ∙ some
 
-pub looked_follows : (t after : Tables) (seen new : List ℕ) (b i word old x : ℕ) → t.lost ≡ false → slice_index new b ≡ word → field_place b i < length new → IsPassedField word t b i
-    → (after.lost ≡ false → (olds news : List ℕ) → ShowsField olds news t b i word old x → Looked olds news b i t after)
-    → Follows t seen new → Follows after (slice_set seen (field_place (slice_index_or t.origins b 0) i) old) (slice_set new (field_place b i) x)
-looked_follows t after seen new b i word old x fine is inside has looked follows ok =
-    let f = follows fine in
-    let a = slice_index_or t.origins b 0 in
-    let p = field_place a i in
-    let q = field_place b i in
-    let space : IsSpace (front (length seen) seen) = f.1.space in
-    let whole : IsSpace (record { size = 4294967295; words = seen }) = subst (λ ws. IsSpace (record { size = 4294967295; words = ws })) (all_of (length seen) seen refl) space in
-    let there : IsSome (field_at seen a i) = original_seen t seen new b i word fine is has follows in
-    let low : p < length seen = (field_read seen a i whole.walked there).within in
-    let l : Looked (slice_set seen p old) (slice_set new q x) b i t after = looked ok (slice_set seen p old) (slice_set new q x) (record {
-      header = get_or-set_other new q b x 0 (λ e. let e' : b ≡ field_place b i = e in omega arith) ∙ is;
-      old_within = omega (arith, low, length-set seen p old);
-      old_word = get_or-set_same seen p old 0 low;
-      new_within = omega (arith, inside, length-set new q x);
-      new_word = get_or-set_same new q x 0 inside;
-    }) in (
-      both_tells seen new t after a b i old x f.0 refl l,
-      whole_seen (record { size = 4294967295; words = slice_set seen p old }) (field_written (record { size = 4294967295; words = seen }) a i old whole there).0,
-      ap (λ (t : Tables). length t.news) l.5 ∙ (let n = f.2 in omega (arith, n, length-set new q x, length-set t.news q (code_of (not (field_words_correspond l.0 (pairs_in t.origins) (slice_index (slice_set seen p old) (field_place l.1 i)) (slice_index (slice_set new q x) q)))))),
-    )
+-- both fields, as they are after the look
+module _ (t after : Tables) (seen new : List ℕ) (b i word old x : ℕ) (fine : t.lost ≡ false) (is : slice_index new b ≡ word) (inside : field_place b i < length new) (has : IsPassedField word t b i)
+    (looked : after.lost ≡ false → (olds news : List ℕ) → ShowsField olds news t b i word old x → Looked olds news b i t after) (follows : Follows t seen new) where
+  abbrev a : ℕ
+  a = slice_index_or t.origins b 0
+
+  whole : IsSpace (record { size = 4294967295; words = seen })
+  whole = subst (λ ws. IsSpace (record { size = 4294967295; words = ws })) (all_of (length seen) seen refl) (follows fine).1.space
+
+  there : IsSome (field_at seen a i)
+  there = original_seen t seen new b i word fine is has follows
+
+  pub looked_at : after.lost ≡ false → Looked (slice_set seen (field_place (slice_index_or t.origins b 0) i) old) (slice_set new (field_place b i) x) b i t after
+  looked_at ok =
+      let p = field_place a i in
+      let q = field_place b i in
+      let low : p < length seen = (field_read seen a i whole.walked there).within in
+      looked ok (slice_set seen p old) (slice_set new q x) (record {
+        header = get_or-set_other new q b x 0 (λ e. let e' : b ≡ field_place b i = e in omega arith) ∙ is;
+        old_within = omega (arith, low, length-set seen p old);
+        old_word = get_or-set_same seen p old 0 low;
+        new_within = omega (arith, inside, length-set new q x);
+        new_word = get_or-set_same new q x 0 inside;
+      })
+
+  pub looked_follows : Follows after (slice_set seen (field_place (slice_index_or t.origins b 0) i) old) (slice_set new (field_place b i) x)
+  looked_follows ok =
+      let l = looked_at ok in
+      let p = field_place a i in
+      let q = field_place b i in (
+        both_tells seen new t after a b i old x (follows fine).0 refl l,
+        whole_seen (record { size = 4294967295; words = slice_set seen p old }) (field_written (record { size = 4294967295; words = seen }) a i old whole there).0,
+        ap (λ (t : Tables). length t.news) l.5
+            ∙ (let n = (follows fine).2 in omega (arith, n, length-set new q x, length-set t.news q (code_of (not (field_words_correspond l.0 (pairs_in t.origins) (slice_index (slice_set seen p old) (field_place l.1 i)) (slice_index (slice_set new q x) q)))))),
+      )
 
 -- ---- a replica placed
 

@@ -10,8 +10,8 @@ use prog.Atomic.{either}
 use Rattle.atomic_table.specs.Table.{State, step, Act, Valid, carried_after, keeps, takes, gives, stepped, Allows, Splits, opening}
 use Rattle.atomic_table.proofs.Lists.{at_set, set_here, set_again, exchanged}
 use Rattle.gc_concurrent.specs.declared.commands.Commander.{Commander}
-use Rattle.gc_concurrent.specs.Holders.{heap_in}
-use Rattle.gc_concurrent.specs.Heaps.{GoesOnIn}
+use Rattle.gc_concurrent.specs.Holders.{situation_in}
+use Rattle.gc_concurrent.specs.Moves.{StaysOrFlips}
 use Rattle.gc_concurrent.specs.Internal.Handshakes.{Goer, Keeper, HandshakeKnown, Stage, fresh, running, asked, handed, taken, finished, Slots, HandshakeStands, HandshakeSeated, IsHandshake, handshake_opening, only_goes, only_keeps, HandshakeSat, parked, resumed, in_phase, took_it, let_go, tells_start, tells_park, tells_resume, tells_ask, tells_hand_over, tells_withdraw, tells_go}
 use Rattle.gc_concurrent.specs.Holders.{cells_of}
 
@@ -126,7 +126,7 @@ parks_rule slots id v c goes row s r _ here _ =
     first d more is = let p : ◌≡◌ {A = ℕ × Option Commander} (0, Some c) (0, Some d) = cc is in let q : Some c ≡ Some d = ap (λ (x : ℕ × Option Commander). x.1) p in cc q
 
 finished_only : (P : Type 0) (stage : Stage) (handshake : ℕ) (g : Goer) (k : Keeper) (homes : Slots) → handshake ≡ 3 → HandshakeStands stage handshake g k homes
-    → ((k.phase ≡ 0) → (c : Commander) → (get_elem? homes 0 ≡ some (some (Some c))) → GoesOnIn g.left (heap_in c) → (cells_of c ≡ k.row) → P) → P
+    → ((k.phase ≡ 0) → (c : Commander) → (get_elem? homes 0 ≡ some (some (Some c))) → StaysOrFlips g.left (situation_in c) → (cells_of c ≡ k.row) → P) → P
 finished_only P fresh handshake g k homes e f h = absurd (let a = f.0 in omega arith)
 finished_only P running handshake g k homes e f h = absurd (let a = f.0 in omega arith)
 finished_only P asked handshake g k homes e f h = absurd (let a = f.0 in omega arith)
@@ -150,7 +150,7 @@ resumes_rule slots id v goes s r _ here _ =
       home,
       rule_stays s r 0 (set s.homes 0 none) (set s.views id (resumed c v)) (resumed c v).goer r.keeper running (length-set s.homes 0 none ∙ room) (refl, refl, phase, sym row)
           (goes_set r.goes_at r.keeps_at id r.goer (resumed c v).goer r.keeper s.views v here goes r.seats),
-      ((λ _. (c, subst (λ (g : Goer). GoesOnIn g.left (heap_in c)) (sym to) follows, refl)), λ ne. absurd (ne e)),
+      ((λ _. (c, subst (λ (g : Goer). StaysOrFlips g.left (situation_in c)) (sym to) follows, refl)), λ ne. absurd (ne e)),
     )))
     (λ ne. (v, keeps, tt, same s id me.1 v here r, ((λ e. absurd (ne e)), λ _. refl)))
 
@@ -183,7 +183,7 @@ asks_rule slots id me keeps' s r _ here _ =
     (λ ne. (me.0, keeps, tt, same s id me.1 me.0 here r, ((λ e. absurd (ne e)), λ _. refl)))
 
 handed_only : (P : Type 0) (stage : Stage) (handshake : ℕ) (g : Goer) (k : Keeper) (homes : Slots) → handshake ≡ 2 → k.phase ≡ 1 → HandshakeStands stage handshake g k homes
-    → ((g.waits ≡ true) → (c : Commander) → (get_elem? homes 0 ≡ some (some (Some c))) → (heap_in c ≡ g.left) → (cells_of c ≡ k.row) → P) → P
+    → ((g.waits ≡ true) → (c : Commander) → (get_elem? homes 0 ≡ some (some (Some c))) → (situation_in c ≡ g.left) → (cells_of c ≡ k.row) → P) → P
 handed_only P fresh handshake g k homes e p f h = absurd (let a = f.0 in omega arith)
 handed_only P running handshake g k homes e p f h = absurd (let a = f.0 in omega arith)
 handed_only P asked handshake g k homes e p f h = absurd (let a = f.0 in omega arith)
@@ -214,7 +214,7 @@ takes_over_rule slots id v keeps' phase s r _ here _ =
 
 -- while the collector asks, the mutator has stopped unless the word is 1
 stopped_only : (P : Type 0) (stage : Stage) (handshake : ℕ) (g : Goer) (k : Keeper) (homes : Slots) → handshake ≢ 1 → k.phase ≡ 1 → HandshakeStands stage handshake g k homes
-    → ((handshake ≡ 2) → (g.waits ≡ true) → (c : Commander) → (get_elem? homes 0 ≡ some (some (Some c))) → (heap_in c ≡ g.left) → (cells_of c ≡ k.row) → P) → P
+    → ((handshake ≡ 2) → (g.waits ≡ true) → (c : Commander) → (get_elem? homes 0 ≡ some (some (Some c))) → (situation_in c ≡ g.left) → (cells_of c ≡ k.row) → P) → P
 stopped_only P fresh handshake g k homes n p f h = absurd (let a = f.2 in omega arith)
 stopped_only P running handshake g k homes n p f h = absurd (let a = f.2 in omega arith)
 stopped_only P asked handshake g k homes n p f h = absurd (n f.0)
@@ -260,7 +260,7 @@ taken_only P handed handshake g k homes p f h = absurd (let a = f.2 in omega ari
 taken_only P taken handshake g k homes p f h = h f.1 f.3
 taken_only P finished handshake g k homes p f h = absurd (let a = f.2 in omega arith)
 
-pub goes_rule : (slots id : ℕ) (v : HandshakeKnown) (c : Commander) → v.keeps ≡ true → v.keeper.phase ≡ 2 → GoesOnIn v.keeper.took (heap_in c)
+pub goes_rule : (slots id : ℕ) (v : HandshakeKnown) (c : Commander) → v.keeps ≡ true → v.keeper.phase ≡ 2 → StaysOrFlips v.keeper.took (situation_in c)
     → Allows IsHandshake slots id (v, (0, Some c) ∷ []) 0 (λ _. 3) (λ _. tells_go (step slots 0 3 0 none) (v, (0, Some c) ∷ []) 3)
 goes_rule slots id v c keeps' phase follows s r _ here _ =
     let own = (r.seats id v here).1 keeps' in
@@ -274,7 +274,7 @@ goes_rule slots id v c keeps' phase follows s r _ here _ =
       gives,
       tt,
       rule_stays s r 3 (set s.homes 0 (some (Some c))) (set s.views id (let_go c v)) r.goer (let_go c v).keeper finished (length-set s.homes 0 (some (Some c)) ∙ room)
-          (refl, waits, refl, (c, set_here s.homes 0 (some (Some c)) (omega arith), (subst (λ h. GoesOnIn h (heap_in c)) (ap (λ (k : Keeper). k.took) to ∙ took) follows, refl)))
+          (refl, waits, refl, (c, set_here s.homes 0 (some (Some c)) (omega arith), (subst (λ h. StaysOrFlips h (situation_in c)) (ap (λ (k : Keeper). k.took) to ∙ took) follows, refl)))
           (keeps_set r.goes_at r.keeps_at id r.goer r.keeper (let_go c v).keeper s.views v here keeps' r.seats),
       λ d more is. λ i. (let_go (first d more is i) v, []),
     ))

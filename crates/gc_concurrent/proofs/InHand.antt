@@ -5,17 +5,18 @@ use Rattle.gc_words.specs.Space.{SpaceWords, IsSpace, end_of}
 use Rattle.gc_words.specs.Closed.{IsWordOfField, IsFieldWord}
 use Rattle.gc_copy.specs.Words.{replicas_in}
 use Rattle.gc_words.specs.declared.header.Header.{Header}
-use Rattle.gc_model.specs.State.{Replica}
+use Rattle.gc_model.specs.State.{Replica, replica_of}
 use Rattle.gc_model.specs.Steps.{is_empty}
 use Rattle.gc_concurrent.specs.declared.copier.Copier.{Copier}
 use Rattle.gc_concurrent.specs.Internal.Spares.{claims_spared}
-use Rattle.gc_concurrent.specs.Ends.{Theirs}
-use Rattle.std.specs.Prelude.{slice_index, drop}
+use Rattle.gc_concurrent.specs.Ends.{Theirs, its}
+use Rattle.gc_concurrent.specs.Moves.{half}
+use Rattle.std.specs.Prelude.{slice_index, drop, IsSome}
 use Rattle.std.proofs.Math.Logic.{∥∥₁_elim}
 use Rattle.std.proofs.Props.{props}
-use Rattle.gc_concurrent.specs.Internal.Rule.{Sat, entries_of_fields}
+use Rattle.gc_concurrent.specs.Internal.Rule.{Sat, StartsThere, entries_of_fields}
 use Rattle.gc_concurrent.specs.Internal.Flip.{Holds}
-use Rattle.gc_concurrent.specs.Internal.Copiers.{KeepsSeat}
+use Rattle.gc_concurrent.specs.Internal.Copiers.{HasOwnHalf, KeepsReplicas, KeepsSeat}
 use Rattle.gc_concurrent.proofs.Memory.{Stands, stands_at, stands_for, one_there, claimed, scan_start, scan_low}
 
 pub mem : (a : Copier) → Holds a.space a.seat.me.0.theirs
@@ -32,8 +33,8 @@ still_sized a space e = ap (λ (s : SpaceWords). s.size) e ∙ a.sized.1
 pub still_same : (a : Copier) (space : SpaceWords) → space ≡ a.space → a.seat.me.0.theirs.replicas ≡ replicas_in space.words
 still_same a space e = a.same ∙ ap (λ (s : SpaceWords). replicas_in s.words) (sym e)
 
-pub still_spared : (a : Copier) (size : ℕ) → size ≡ a.space.size → claims_spared a.spare size ≡ size
-still_spared a size e = subst (λ n. claims_spared a.spare n ≡ n) (sym e) a.spared
+pub still_spared : (a : Copier) (size : ℕ) → size ≡ a.space.size → claims_spared a.spare (half size) ≡ half size
+still_spared a size e = subst (λ n. claims_spared a.spare (half n) ≡ half n) (sym e) a.spared
 
 pub at_scan : (a : Copier) → a.scan_place < end_of a.space → Stands a.seat.me.0.theirs a.space a.scan_place
 at_scan a less = stands_at a.seat.me.0.theirs a.space a.scan_place (mem a)
@@ -52,11 +53,14 @@ word_fits words place w h read is space e b found =
     subst (λ (z : Header × List ℕ). IsWordOfField z.0.raw z.1 w) (λ i. (sym same i, sym e i)) is
 
 -- the seat after a step that changes the collector's view alone
-pub keeps_seat : (a b : Sat) (t : Theirs) → b ≡ (record a.0 { theirs = t }, a.1) → t.old ≡ a.0.theirs.old → t.base ≡ a.0.theirs.base → t.size ≡ a.0.theirs.size → KeepsSeat a b
-keeps_seat a b t e old base size = record {
+pub keeps_seat : (a b : Sat) (t : Theirs) → b ≡ (record a.0 { theirs = t }, a.1) → t.old ≡ a.0.theirs.old → t.base ≡ a.0.theirs.base → t.size ≡ a.0.theirs.size → KeepsReplicas a.0.theirs t
+    → (a.0.writes ≡ true → StartsThere a.0.mine a.0.theirs → StartsThere a.0.mine t) → KeepsSeat a b
+keeps_seat a b t e old base size replicas starts = record {
   writes = ap (λ (m : Sat). m.0.writes) e;
   mine = ap (λ (m : Sat). m.0.mine) e;
   begun = record { base = ap (λ (m : Sat). m.0.theirs.base) e ∙ base; from = ap (λ (m : Sat). m.0.theirs.old) e ∙ old; into = ap (λ (m : Sat). m.0.theirs.size) e ∙ size };
+  replicas = λ x there. subst (λ (y : Theirs). IsSome (replica_of (its y) x)) (sym (ap (λ (m : Sat). m.0.theirs) e)) (replicas x there);
+  starts = λ writes there. subst (λ (m : Sat). StartsThere m.0.mine m.0.theirs) (sym e) (starts writes there);
   holds = ap (λ (m : Sat). m.1) e;
 }
 
@@ -93,11 +97,11 @@ abbrev pub entries : Copier → List (ℕ × ℕ)
 entries a = entries_of_fields a.fill a.fill_next a.fill_left ++ drop a.next a.due.items
 
 -- the replica of a claim, in memory
-pub claim_stands : (a : Copier) (name place : ℕ) → name < a.seat.me.0.theirs.old → slice_index a.claims.items name ≡ place → place ≢ 0
+pub claim_stands : (a : Copier) (name place : ℕ) → HasOwnHalf a.seat.me.0.theirs name → slice_index a.claims.items (half name) ≡ place → place ≢ 0
     → (s : Stands a.seat.me.0.theirs a.space place) × (s.replica.original ≡ name)
-claim_stands a name place low is ne =
+claim_stands a name place own is ne =
     let t : Theirs = a.seat.me.0.theirs in
-    let q = claimed a.claims.items t name a.claimed low (λ e. ne (sym is ∙ e)) in
+    let q = claimed a.claims.items t name a.claimed own (λ e. ne (sym is ∙ e)) in
     let at : q.0.place ≡ place = q.4 ∙ is in
     let start : is_start a.space.words place ≡ true = subst (λ p. is_start a.space.words p ≡ true) at (stands_for t a.space q.0 (mem a) q.2) in
     let s = stands_at t a.space place (mem a) start in (

@@ -15,8 +15,9 @@ use Rattle.gc_model.proofs.Public.{its_replicas, belongs_from, replicas_due, in_
 use Rattle.gc_concurrent.specs.Ends.{Known, Mine, Theirs}
 use Rattle.gc_concurrent.specs.Unreachable.{MayBeCopied}
 use Rattle.gc_concurrent.specs.Internal.Plans.{collection_of, plan}
-use Rattle.gc_concurrent.specs.Internal.Rule.{AreSeated, CatchesUp, IsConcurrent, Seated, Sat, logs_taken, root_wanted, wants, tells_take, tells_root}
+use Rattle.gc_concurrent.specs.Internal.Rule.{AreSeated, CatchesUp, IsConcurrent, Seated, Sat, StartsThere, logs_taken, root_wanted, wants, tells_take, tells_root}
 use Rattle.gc_concurrent.specs.Internal.Told.{ComesFromSeen}
+use Rattle.gc_concurrent.proofs.Halves.{start_of}
 use Rattle.gc_concurrent.proofs.Hands.{St, seat_set}
 use Rattle.gc_concurrent.proofs.Shown.{shown_anew}
 use Rattle.gc_concurrent.proofs.Told.{caught_up}
@@ -63,8 +64,12 @@ catches_up size s r id v seat writes copies =
       rests = λ e. let k = r.rests (ap (λ (m : Mine). m.logs) (sym mine) ∙ e) in (ap (λ (t : Theirs). t.replicas) theirs ∙ k.copied, ap (λ (m : Mine). m.log) mine ∙ k.logged);
     }
 
+-- an original is an object of the mutator's space
+originals_start : (m : Mine) (t : Theirs) → IsOpened (plan m t) (collection_of m t) → StartsThere m t
+originals_start m t h r there = start_of m.space.words r.original (ap is_some ((h.belongs).replicas r there).found)
+
 take_at : (slots size : ℕ) (s : St) (r : IsConcurrent size s) (k id : ℕ) (me : Sat) → get_elem? s.views id ≡ some me.0 → me.0.writes ≡ true → me.0.copies ≡ true
-    → Leaves size s k id me (λ n m. (m ≡ (logs_taken me.0, me.1)) × (me.0.theirs.base ≡ me.0.mine.base) × CatchesUp me.0)
+    → Leaves size s k id me (λ n m. (m ≡ (logs_taken me.0, me.1)) × (me.0.theirs.base ≡ me.0.mine.base.heap) × CatchesUp me.0 × StartsThere me.0.mine me.0.theirs)
 take_at slots size s r k id me seat writes copies =
     let own = r.seats id me.0 seat in
     let mine : me.0.mine ≡ r.mine = ((own.0) writes).1 in
@@ -99,18 +104,19 @@ take_at slots size s r k id me seat writes copies =
       }),
       (
         (λ j. (record me.0 { mine = record (sym mine j) { log = [] }; theirs = record (sym theirs j) { due = (sym theirs j).due ++ (sym mine j).log }; seen = (sym mine j).space.words }, me.1)),
-        subst (λ (z : Mine × Theirs). z.1.base ≡ z.0.base) (λ j. (sym mine j, sym theirs j)) r.carries.begun,
+        subst (λ (z : Mine × Theirs). z.1.base ≡ z.0.base.heap) (λ j. (sym mine j, sym theirs j)) r.carries.begun,
         catches_up size s r id me.0 seat writes copies,
+        subst (λ (z : Mine × Theirs). StartsThere z.0 z.1) (λ j. (sym mine j, sym theirs j)) (originals_start r.mine r.theirs r.opened),
       ),
     )
 
 pub takes_rule : (slots size k id : ℕ) (me : Sat) → me.0.writes ≡ true → me.0.copies ≡ true
     → Allows (IsConcurrent size) slots id me k (λ x. x) (tells_take (step slots k 0 0 none) me)
-takes_rule slots size k id me writes copies s r _ seat _ = loosely size s k id me (λ n m. (m ≡ (logs_taken me.0, me.1)) × (me.0.theirs.base ≡ me.0.mine.base) × CatchesUp me.0) seat (take_at slots size s r k id me seat writes copies)
+takes_rule slots size k id me writes copies s r _ seat _ = loosely size s k id me (λ n m. (m ≡ (logs_taken me.0, me.1)) × (me.0.theirs.base ≡ me.0.mine.base.heap) × CatchesUp me.0 × StartsThere me.0.mine me.0.theirs) seat (take_at slots size s r k id me seat writes copies)
 
 -- ---- roots
 
-pub roots_rule : (slots size id : ℕ) (me : Sat) (w name : ℕ) → me.0.writes ≡ true → me.0.copies ≡ true → me.0.mine.log ≡ [] → IsRootWord me.0.mine.space.words w → value_of w ≡ Ref name → MayBeCopied me.0.theirs.base name
+pub roots_rule : (slots size id : ℕ) (me : Sat) (w name : ℕ) → me.0.writes ≡ true → me.0.copies ≡ true → me.0.mine.log ≡ [] → IsRootWord me.0.mine.space.words w → value_of w ≡ Ref name → MayBeCopied me.0.mine.base name
     → Allows (IsConcurrent size) slots id me name (λ x. x) (tells_root (step slots name 0 0 none) me)
 roots_rule slots size id me w name writes copies empty fine is allowed s r _ seat _ =
     let mine : me.0.mine ≡ r.mine = ((r.seats id me.0 seat).0 writes).1 in
@@ -140,7 +146,7 @@ roots_rule slots size id me w name writes copies empty fine is allowed s r _ sea
         closed = r.closed;
         wanted = λ a h. ⊎_elim (λ (e : name ≡ a). subst (λ x. (o : Object) × (lookup (objects_of r.mine.space.words) x ≡ Some o)) e (target_there r.mine.space.words name start)) (λ (e : ⊥). absurd e) h;
         opened = record { belongs = r.opened.belongs; size = r.opened.size; logs = r.opened.logs };
-        carries = kept_mine r.mine t' (kept_wants r.mine r.theirs r.carries name (subst (λ (t : Theirs). MayBeCopied t.base name) theirs allowed)) m' refl (omega arith) r.carries.fields;
+        carries = kept_mine r.mine t' (kept_wants r.mine r.theirs r.carries name (subst (λ (m : Mine). MayBeCopied m.base name) mine allowed)) m' refl (omega arith) r.carries.fields;
         fits = r.fits;
         rests = λ e. absurd (true≢false e);
         seats = both_seats r.writer r.copier id r.mine m' r.theirs t' s.views me.0 w seat writes copies refl refl r.seats;

@@ -1,7 +1,7 @@
 -- References lead only to objects that were reachable when a collection began, or made since.
 use Rattle.std.proofs.lemmas.Grind.{common_steps}
 use Rattle.std.proofs.lemmas.Bool.{cases_Bool}
-use Rattle.std.proofs.Common.{◌≡◌, ◌⊎◌, ℕ, zero, suc, ◌-◌, ◌≤◌, Bool, true, false, List, [], ◌∷◌, ◌++◌, map, set, Option, Some, None, slice_get, refl, ap, sym, ◌∙◌, subst, inl, inr, ⊎_elim, arith}
+use Rattle.std.proofs.Common.{◌≡◌, ◌⊎◌, ℕ, zero, suc, ◌-◌, ◌≤◌, Bool, true, false, List, [], ◌∷◌, ◌++◌, map, set, Option, Some, None, slice_get, refl, ap, sym, ◌∙◌, subst, inl, inr, ⊎_elim, arith, true≢false}
 use Rattle.gc_graph.specs.Graph.{Value, Nil, Num, Ref, Object, Graph, lookup, object_of, field_of, root, follow, first_value, new_object, set_field}
 use Rattle.std.specs.Prelude.{IsSome}
 use Rattle.std.specs.Option.{option_map}
@@ -20,10 +20,10 @@ use Rattle.gc_model.specs.Belonging.{RefersTo, IsSpaceGraph}
 use Rattle.gc_model.specs.Carried.{LeadsOnlyTo}
 use Rattle.gc_model.proofs.Public.{get_in, in_get, in_map_from, in_push, in_replicate, laid_range, lookup_in, lookup_laid, set_from, with_written_pair, written_entry}
 use Rattle.gc_copy.proofs.Public.{heap_graph}
-use Rattle.gc_concurrent.specs.Unreachable.{MayBeCopied}
+use Rattle.gc_concurrent.specs.Unreachable.{CopiesNothingUnreachable, IsUnreachable, MayBeCopied}
 use Rattle.gc_concurrent.specs.Internal.Carrying.{FieldsLeadTo, KeepsUnreachableOut}
-use Rattle.gc_concurrent.specs.Internal.Rule.{wants, placed_one, blank_replica}
-use Rattle.gc_concurrent.specs.Ends.{Mine, Theirs, its, one_heap}
+use Rattle.gc_concurrent.specs.Internal.Rule.{wants, placed_one, blank_replica, referring}
+use Rattle.gc_concurrent.specs.Ends.{Beginning, Mine, Theirs, begun_with, its, one_heap}
 
 -- ---- where a collection begins
 
@@ -33,7 +33,7 @@ steps_on objects (Some v) [] i = refl
 steps_on objects (Some v) (j ∷ fields) i = steps_on objects (field_of (object_of objects v) j) fields i
 
 -- all references of a heap lead to what a collection of it may copy
-pub begins_kept : (base : HeapWords) → IsHeap base → LeadsOnlyTo (MayBeCopied base) (graph_in base)
+pub begins_kept : (base : HeapWords) → IsHeap base → LeadsOnlyTo (MayBeCopied (begun_with base)) (graph_in base)
 begins_kept base h = record { roots = λ v k. let i = in_get v g.roots k in root_kept i.0 v i.1; fields = λ a o k p v l. let i = in_get v o.fields l in field_kept a o k p i.0 v i.1 }
   where
     g : Graph
@@ -42,21 +42,21 @@ begins_kept base h = record { roots = λ v k. let i = in_get v g.roots k in root
     laid : IsSpaceGraph base.space.size (free_in base.space) (graph_in base)
     laid = heap_graph base h
 
-    root_kept : (i : ℕ) (v : Value) → slice_get (graph_in base).roots i ≡ Some v → RefersTo (MayBeCopied base) v
+    root_kept : (i : ℕ) (v : Value) → slice_get (graph_in base).roots i ≡ Some v → RefersTo (MayBeCopied (begun_with base)) v
     root_kept i Nil e = tt
     root_kept i (Num n) e = tt
-    root_kept i (Ref a) e = λ lost. lost.1 (i, [], ap (λ o. follow (graph_in base).objects o []) e)
+    root_kept i (Ref a) e = λ _ lost. lost.1 (i, [], ap (λ o. follow (graph_in base).objects o []) e)
 
-    field_kept : (a : ℕ) (o : Object) → In (a, o) (graph_in base).objects → MayBeCopied base a → (i : ℕ) (v : Value) → slice_get o.fields i ≡ Some v → RefersTo (MayBeCopied base) v
+    field_kept : (a : ℕ) (o : Object) → In (a, o) (graph_in base).objects → MayBeCopied (begun_with base) a → (i : ℕ) (v : Value) → slice_get o.fields i ≡ Some v → RefersTo (MayBeCopied (begun_with base)) v
     field_kept a o k allowed i Nil e = tt
     field_kept a o k allowed i (Num n) e = tt
-    field_kept a o k allowed i (Ref b) e = λ lost.
+    field_kept a o k allowed i (Ref b) e = λ fresh lost.
         let end = base.space.size - free_in base.space in
         let range = laid_range 1 (graph_in base).objects end (a, o) laid.laid k in
         let found = lookup_laid 1 (graph_in base).objects end a o laid.laid k in
         let high = (h.space).end_high in
         let low = range.1 in
-        allowed (
+        allowed fresh (
           (let x = low in omega arith),
           λ r. lost.1 (
             r.0,
@@ -69,8 +69,21 @@ begins_kept base h = record { roots = λ v k. let i = in_get v g.roots k in root
         )
 
 -- what is made later may be copied
-pub behind_kept : (base : HeapWords) (name : ℕ) → end_of base.space ≤ name → MayBeCopied base name
-behind_kept base name later = λ lost. let low = lost.0 in omega arith
+pub behind_kept : (base : Beginning) (name : ℕ) → end_of base.heap.space ≤ name → MayBeCopied base name
+behind_kept base name later = λ _ lost. let low = lost.0 in omega arith
+
+-- after a reference from an address any object may be
+all_kept : (base : Beginning) → base.referred ≡ true → (name : ℕ) → MayBeCopied base name
+all_kept base referred name = λ fresh. absurd (true≢false (sym referred ∙ fresh))
+
+all_refer : (P : ℕ → Type 0) → ((name : ℕ) → P name) → (v : Value) → RefersTo P v
+all_refer P all Nil = tt
+all_refer P all (Num n) = tt
+all_refer P all (Ref a) = all a
+
+-- so references lead anywhere
+fields_lead : (base : Beginning) → base.referred ≡ true → (objects : List (ℕ × Object)) → FieldsLeadTo (MayBeCopied base) objects
+fields_lead base referred objects = λ a o k p v l. all_refer (MayBeCopied base) (all_kept base referred) v
 
 -- ---- fields and roots that are read
 
@@ -172,8 +185,8 @@ module _ (m : Mine) (t : Theirs) (k : KeepsUnreachableOut m t) where
     begun = base ∙ k.begun;
     behind = k.behind;
     fields = k.fields;
-    copied = λ r l. subst (λ (b : HeapWords). MayBeCopied b r.original) (sym base) (k.copied r (subst (In r) same l));
-    wanted = λ a l. subst (λ (b : HeapWords). MayBeCopied b a) (sym base) (k.wanted a (subst (In a) wanted l));
+    copied = λ r l. k.copied r (subst (In r) same l);
+    wanted = λ a l. k.wanted a (subst (In a) wanted l);
   }
 
   -- a field of a replica follows
@@ -184,13 +197,13 @@ module _ (m : Mine) (t : Theirs) (k : KeepsUnreachableOut m t) where
     fields = k.fields;
     copied = λ r l.
         let q = in_map_from (with_written name i v) r t.replicas (subst (In r) same l) in
-        subst (λ (z : HeapWords × ℕ). MayBeCopied z.0 z.1) (λ j. (sym base j, (sym (original_stays name i v q.0) ∙ ap (λ (x : Replica). x.original) q.2) j)) (k.copied q.0 q.1);
-    wanted = λ a l. subst (λ (b : HeapWords). MayBeCopied b a) (sym base) (k.wanted a (subst (In a) wanted l));
+        subst (MayBeCopied m.base) (sym (original_stays name i v q.0) ∙ ap (λ (x : Replica). x.original) q.2) (k.copied q.0 q.1);
+    wanted = λ a l. k.wanted a (subst (In a) wanted l);
   }
 
   -- an object that may be copied is wanted
-  pub kept_wants : (name : ℕ) → MayBeCopied t.base name → KeepsUnreachableOut m (wants name t)
-  kept_wants name allowed = record { begun = k.begun; behind = k.behind; fields = k.fields; copied = k.copied; wanted = λ a l. ⊎_elim (λ (e : name ≡ a). subst (MayBeCopied t.base) e allowed) (λ (e : ⊥). absurd e) l }
+  pub kept_wants : (name : ℕ) → MayBeCopied m.base name → KeepsUnreachableOut m (wants name t)
+  kept_wants name allowed = record { begun = k.begun; behind = k.behind; fields = k.fields; copied = k.copied; wanted = λ a l. ⊎_elim (λ (e : name ≡ a). subst (MayBeCopied m.base) e allowed) (λ (e : ⊥). absurd e) l }
 
   -- an object that is wanted is copied
   pub kept_placed : (name : ℕ) (o : Object) → In name t.wanted → KeepsUnreachableOut m (placed_one name o t)
@@ -198,22 +211,35 @@ module _ (m : Mine) (t : Theirs) (k : KeepsUnreachableOut m t) where
     begun = k.begun;
     behind = k.behind;
     fields = k.fields;
-    copied = λ r l. ⊎_elim (k.copied r) (λ e. subst (λ (q : Replica). MayBeCopied t.base q.original) e (k.wanted name there)) (in_push r (blank_replica name (new_end (its t)) o) t.replicas l);
+    copied = λ r l. ⊎_elim (k.copied r) (λ e. subst (λ (q : Replica). MayBeCopied m.base q.original) e (k.wanted name there)) (in_push r (blank_replica name (new_end (its t)) o) t.replicas l);
     wanted = λ a l. absurd l;
   }
 
   -- the target of a field of a replica may be copied
-  pub kept_target : (q : Replica) (i : ℕ) (v : Value) (name : ℕ) → In q t.replicas → field_of (lookup (objects_of m.space.words) q.original) i ≡ Some v → v ≡ Ref name → MayBeCopied t.base name
+  pub kept_target : (q : Replica) (i : ℕ) (v : Value) (name : ℕ) → In q t.replicas → field_of (lookup (objects_of m.space.words) q.original) i ≡ Some v → v ≡ Ref name → MayBeCopied m.base name
   kept_target q i v name l is e =
-      let at : MayBeCopied m.base q.original = subst (λ (b : HeapWords). MayBeCopied b q.original) k.begun (k.copied q l) in
-      subst (λ (b : HeapWords). MayBeCopied b name) (sym k.begun) (target_leads (MayBeCopied m.base) v name (field_leads (MayBeCopied m.base) (objects_of m.space.words) q.original i v k.fields at is) e)
+      target_leads (MayBeCopied m.base) v name (field_leads (MayBeCopied m.base) (objects_of m.space.words) q.original i v k.fields (k.copied q l) is) e
 
   -- the mutator's objects change, and lie no less far
   pub kept_mine : (m' : Mine) → m'.base ≡ m.base → end_of m.space ≤ end_of m'.space → FieldsLeadTo (MayBeCopied m.base) (objects_of m'.space.words) → KeepsUnreachableOut m' t
   kept_mine m' base longer fields = record {
-    begun = k.begun ∙ sym base;
-    behind = (let b = k.behind in let e = ap (λ (h : HeapWords). end_of h.space) base in omega arith);
-    fields = subst (λ (b : HeapWords). FieldsLeadTo (MayBeCopied b) (objects_of m'.space.words)) (sym base) fields;
-    copied = k.copied;
-    wanted = k.wanted;
+    begun = k.begun ∙ ap (λ (b : Beginning). b.heap) (sym base);
+    behind = (let b = k.behind in let e = ap (λ (b : Beginning). end_of b.heap.space) base in omega arith);
+    fields = subst (λ (b : Beginning). FieldsLeadTo (MayBeCopied b) (objects_of m'.space.words)) (sym base) fields;
+    copied = λ r l. subst (λ (b : Beginning). MayBeCopied b r.original) (sym base) (k.copied r l);
+    wanted = λ a l. subst (λ (b : Beginning). MayBeCopied b a) (sym base) (k.wanted a l);
   }
+
+  -- a reference was made from an address alone
+  pub kept_referring : KeepsUnreachableOut (referring m) t
+  kept_referring = record {
+    begun = k.begun;
+    behind = k.behind;
+    fields = fields_lead (referring m).base refl (objects_of m.space.words);
+    copied = λ r l. all_kept (referring m).base refl r.original;
+    wanted = λ a l. all_kept (referring m).base refl a;
+  }
+
+  -- without one, nothing is copied that was unreachable when the collection began
+  pub kept_out : m.base.referred ≡ false → CopiesNothingUnreachable t
+  kept_out fresh r l lost = k.copied r l fresh (subst (λ (b : HeapWords). IsUnreachable b r.original) k.begun lost)

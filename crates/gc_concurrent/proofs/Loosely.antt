@@ -14,6 +14,7 @@ use Rattle.gc_concurrent.specs.Internal.Plans.{collection_of}
 use Rattle.gc_concurrent.specs.Internal.Rule.{RootWords, IsConcurrent, Loose, KnowsBelonging, Sat}
 use Rattle.gc_concurrent.specs.Ends.{its}
 use Rattle.gc_concurrent.proofs.Hands.{St}
+use Rattle.gc_concurrent.proofs.Halves.{start_of, starts_apart}
 
 -- what a load of the word k by this seat leaves
 abbrev pub Leaves : (size : ℕ) (s : St) (k id : ℕ) (me : Sat) → (ℕ → Sat → Type 0) → Type 0
@@ -50,6 +51,7 @@ loose_of size s r =
           let count : c.0.header.len ≡ length o.fields = sym many ∙ ap (λ (x : Object). length x.fields) c.2 in
           let end = (r.space).end_high in let sized = r.sized in let older = r.older in
           omega arith;
+      apart = λ a b x y. starts_apart words a b (r.space).walked (start_of words a x) (start_of words b y);
       wanted = r.wanted;
       high = (r.opened).size;
       old_low = let low = (r.space).size_low in let sized = r.sized in let older = r.older in omega arith;

@@ -16,7 +16,7 @@ use Rattle.gc_model.proofs.Public.{begun_belongs}
 use Rattle.gc_copy.proofs.Public.{words_numbers}
 use Rattle.gc_heap.specs.Heap.{HeapWords, IsHeap}
 use Rattle.gc_concurrent.proofs.Keeping.{begins_kept}
-use Rattle.gc_concurrent.specs.Ends.{Known, Mine, Theirs, one_heap, opening_mine, opening_theirs, opening_view}
+use Rattle.gc_concurrent.specs.Ends.{Known, Mine, Theirs, begun_with, one_heap, opening_mine, opening_theirs, opening_view}
 use Rattle.gc_concurrent.specs.Unreachable.{MayBeCopied}
 use Rattle.gc_concurrent.specs.Internal.Plans.{collection_of, plan}
 use Rattle.gc_concurrent.specs.Internal.Carrying.{FieldsLeadTo, KeepsUnreachableOut}
@@ -120,7 +120,7 @@ at_rest : (heap : HeapWords) → IsAtRest (opening_mine heap) (opening_theirs he
 at_rest heap = record { logged = refl; copied = refl; due = refl; wanted = refl }
 
 -- a heap whose fields lead only to what may be copied
-fresh_carries : (heap : HeapWords) → FieldsLeadTo (MayBeCopied heap) (objects_of heap.space.words) → KeepsUnreachableOut (opening_mine heap) (opening_theirs heap heap.space.size 1)
+fresh_carries : (heap : HeapWords) → FieldsLeadTo (MayBeCopied (begun_with heap)) (objects_of heap.space.words) → KeepsUnreachableOut (opening_mine heap) (opening_theirs heap heap.space.size 1)
 fresh_carries heap fields = record { begun = refl; behind = omega arith; fields = fields; copied = λ r l. absurd l; wanted = λ a l. absurd l }
 
 pub empty_shaped : (size : ℕ) → 1 ≤ size → size ≤ 4294967295 → IsSpace (empty_space size)

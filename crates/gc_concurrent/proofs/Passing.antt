@@ -9,8 +9,8 @@ use Rattle.atomic_table.specs.declared.owned.Table.{Table}
 use Rattle.atomic_table.specs.Table.{step, rest, Allows}
 use Rattle.gc_concurrent.specs.declared.commands.Commander.{Commander}
 use Rattle.gc_concurrent.specs.declared.handshake.HandshakeRule.{HandshakeRule}
-use Rattle.gc_concurrent.specs.Holders.{heap_in}
-use Rattle.gc_concurrent.specs.Heaps.{GoesOnIn}
+use Rattle.gc_concurrent.specs.Holders.{situation_in}
+use Rattle.gc_concurrent.specs.Moves.{StaysOrFlips}
 use Rattle.gc_concurrent.specs.Internal.Handshakes.{HandshakeKnown, IsHandshake, HandshakeSat, hands, tells_start, tells_park, tells_resume, tells_hand_over, tells_withdraw, tells_go}
 use Rattle.gc_concurrent.specs.Holders.{cells_of}
 use Rattle.gc_concurrent.proofs.Handshaking.{starts_rule, parks_rule, resumes_rule, takes_over_rule, withdraws_rule, goes_rule}
@@ -67,6 +67,6 @@ pub parks_at : (slots id : ℕ) (me : HandshakeSat) (v : HandshakeKnown) (c : Co
     → Allows IsHandshake slots id me 0 (λ g. either (eqb g 1) 2 g) (tells_park (step slots 0 1 2 none) me)
 parks_at slots id me v c e goes row = subst (λ (m : HandshakeSat). Allows IsHandshake slots id m 0 (λ g. either (eqb g 1) 2 g) (tells_park (step slots 0 1 2 none) m)) (sym e) (parks_rule slots id v c goes row)
 
-pub goes_at : (slots id : ℕ) (me : HandshakeSat) (v : HandshakeKnown) (c : Commander) → me ≡ (v, (0, Some c) ∷ []) → v.keeps ≡ true → v.keeper.phase ≡ 2 → GoesOnIn v.keeper.took (heap_in c)
+pub goes_at : (slots id : ℕ) (me : HandshakeSat) (v : HandshakeKnown) (c : Commander) → me ≡ (v, (0, Some c) ∷ []) → v.keeps ≡ true → v.keeper.phase ≡ 2 → StaysOrFlips v.keeper.took (situation_in c)
     → Allows IsHandshake slots id me 0 (λ _. 3) (λ _. tells_go (step slots 0 3 0 none) me 3)
 goes_at slots id me v c e keeps phase follows = subst (λ (m : HandshakeSat). Allows IsHandshake slots id m 0 (λ _. 3) (λ _. tells_go (step slots 0 3 0 none) m 3)) (sym e) (goes_rule slots id v c keeps phase follows)

@@ -9,7 +9,7 @@ use Rattle.gc_graph.specs.Graph.{Object, lookup, new_object, first_value}
 use Rattle.gc_graph.specs.Machine.{object_words}
 use Rattle.gc_words.specs.Word.{read_header}
 use Rattle.gc_words.specs.Space.{end_of}
-use Rattle.gc_words.specs.Image.{block_at, object_of_block, objects_of}
+use Rattle.gc_words.specs.Image.{block_at, is_start, object_of_block, objects_of}
 use Rattle.gc_words.specs.declared.header.Header.{Header}
 use Rattle.gc_words.proofs.Public.{object_found, fields_counted, stands_in}
 use Rattle.gc_model.specs.State.{Replica, Collection, State, replica_of, replica_at, new_end, new_free}
@@ -27,6 +27,7 @@ use Rattle.gc_concurrent.specs.Ends.{Mine, Theirs}
 use Rattle.gc_concurrent.specs.Internal.Plans.{collection_of, plan}
 use Rattle.gc_concurrent.specs.Internal.Rule.{IsConcurrent, passed, placed_one, blank_replica, entries_of_fields, to_fill, entry_dropped, Sat, tells_place_of, tells_pass_of, tells_leave_of, tells_place, tells_pass, tells_leave}
 use Rattle.gc_concurrent.specs.Ends.{its}
+use Rattle.gc_concurrent.proofs.Halves.{start_of}
 use Rattle.gc_concurrent.proofs.Hands.{St}
 use Rattle.gc_concurrent.proofs.Logs.{of_two, to_two, in_either, in_fields, fields_in}
 use Rattle.gc_concurrent.proofs.Fitting.{next_fits, end_placed}
@@ -211,6 +212,7 @@ place_at slots size s r id me name seat copies wanted missing =
         refl,
         λ large. le-ltb (new_free (its t)) (object_words (length o.fields)) (let older = r.older in let sized = r.sized in let high = (r.space).end_high in let n = next in omega arith),
         λ writes. subst (λ (m : Mine). new_end (its t) + object_words (length o.fields) ≤ end_of m.space) (sym ((r.seats id me.0 seat).0 writes).1) next,
+        λ writes. subst (λ (m : Mine). is_start m.space.words name ≡ true) (sym ((r.seats id me.0 seat).0 writes).1) (start_of words name (ap is_some there.1)),
       ),
     )
 

@@ -1,46 +1,42 @@
 -- Roots of a mutator that is held, and the replicas of their targets.
-use Rattle.std.proofs.Common.{◌≡◌, ◌≢◌, ◌⊎◌, ℕ, ◌+◌, ◌<◌, ◌≤◌, true, List, length, slice_index, refl, ap, sym, subst, inr, ⊎_elim, arith}
+use Rattle.std.proofs.Common.{◌≡◌, ◌⊎◌, ℕ, ◌+◌, ◌<◌, ◌≤◌, List, length, slice_index, refl, ap, sym, ◌∙◌, subst, inr, ⊎_elim, arith}
+use Rattle.std.specs.Prelude.{IsSome}
 use Rattle.std.proofs.lemmas.Bool.{cases_lt}
 use Rattle.gc_graph.specs.Graph.{Ref}
 use Rattle.gc_words.specs.Space.{end_of}
 use Rattle.gc_words.specs.Word.{value_of}
+use Rattle.gc_words.specs.Closed.{RefersToStart}
 use Rattle.gc_heap.specs.Heap.{HeapWords}
-use Rattle.gc_model.specs.Steps.{roots_done}
+use Rattle.gc_model.specs.State.{replica_of}
 use Rattle.gc_concurrent.specs.Nearing.{ComesNearer}
 use Rattle.gc_concurrent.specs.Unreachable.{MayBeCopied}
 use Rattle.gc_concurrent.specs.Ends.{Theirs, its}
-use Rattle.gc_concurrent.specs.declared.copier.Copier.{Copier}
 use Rattle.gc_concurrent.specs.declared.held.Held.{Held}
 use Rattle.gc_concurrent.specs.Holders.{heap_held, known_to, StaysOrIsNearer}
-use Rattle.gc_concurrent.specs.Internal.Copiers.{AreClaimed, KeepsClaims}
-use Rattle.gc_concurrent.specs.Internal.Flip.{roots_alone}
+use Rattle.gc_concurrent.specs.Internal.Copiers.{HasOwnHalf, KeepsReplicas}
+use Rattle.gc_concurrent.proofs.Halves.{own_there}
 use Rattle.gc_concurrent.proofs.Keeping.{target_leads}
-use Rattle.gc_concurrent.proofs.Turn.{root_near, roots_placed, root_claimed, value_in}
+use Rattle.gc_concurrent.proofs.Turn.{root_fine, root_near, value_in}
 
 -- the target of a root is an object of the mutator's space
 pub near : (h : Held) (k a : ℕ) → k < length h.roots.items → value_of (slice_index h.roots.items k) ≡ Ref a → a + 2 ≤ h.copier.seat.me.0.theirs.old
 near h k a l is = let n = root_near h.copier.seat.me.0.mine h.roots.items h.sound k a l is in let e = h.ended.1 in let s = h.copier.sized.0 in omega arith
 
 -- and may be copied
-pub target_kept : (h : Held) (k a : ℕ) → k < length h.roots.items → value_of (slice_index h.roots.items k) ≡ Ref a → MayBeCopied h.copier.seat.me.0.theirs.base a
+pub target_kept : (h : Held) (k a : ℕ) → k < length h.roots.items → value_of (slice_index h.roots.items k) ≡ Ref a → MayBeCopied h.copier.seat.me.0.mine.base a
 target_kept h k a l is =
-    subst (λ (b : HeapWords). MayBeCopied b a) (sym h.begun)
-    (target_leads (MayBeCopied h.copier.seat.me.0.mine.base) (Ref a) a (h.leads.roots (Ref a) (value_in h.roots.items k (Ref a) l is)) refl)
+    target_leads (MayBeCopied h.copier.seat.me.0.mine.base) (Ref a) a (h.leads.roots (Ref a) (value_in h.roots.items k (Ref a) l is)) refl
 
--- each target has a replica where it has a claim, also of a collector that has worked on
-pub rooted_by : (h : Held) (b : Copier) → b.seat.me.0.theirs.old ≡ h.copier.seat.me.0.theirs.old → AreClaimed b.claims.items h.roots.items → roots_done (its b.seat.me.0.theirs) (roots_alone h.roots.items) ≡ true
-rooted_by h b from placed = roots_placed b.claims.items b.seat.me.0.theirs h.roots.items b.claimed (λ k a l is. let n = near h k a l is in omega arith) placed
-
--- and stays so
-pub rooted_on : (h : Held) (b : Copier) → b.seat.me.0.theirs.old ≡ h.copier.seat.me.0.theirs.old → KeepsClaims h.copier.claims.items b.claims.items
-    → roots_done (its h.copier.seat.me.0.theirs) (roots_alone h.roots.items) ≡ true → roots_done (its b.seat.me.0.theirs) (roots_alone h.roots.items) ≡ true
-rooted_on h b from keeps done = rooted_by h b from
-    (λ k a l is. keeps a (root_claimed h.copier.seat.me.0.theirs h.copier.claims.items h.roots.items h.copier.claimed h.copier.loose k a l is (let n = near h k a l is in omega arith) done))
+-- with both ends at hand: no other original starts at an address with the same half
+pub root_own : (h : Held) (k a : ℕ) → k < length h.roots.items → value_of (slice_index h.roots.items k) ≡ Ref a → HasOwnHalf h.copier.seat.me.0.theirs a
+root_own h k a l is =
+    let m = h.copier.seat.me.0.mine in
+    own_there m h.copier.seat.me.0.theirs (h.sound).space (h.ended.1 ∙ sym h.copier.sized.0) h.starts_there a (subst (RefersToStart m.space.words) is (root_fine m h.roots.items h.sound k l).start)
 
 -- the targets of the roots before place n, and of the one there
-pub placed_next : (row next roots : List ℕ) (n : ℕ) → KeepsClaims row next → ((j a : ℕ) → j < n → value_of (slice_index roots j) ≡ Ref a → slice_index row a ≢ 0)
-    → ((a : ℕ) → value_of (slice_index roots n) ≡ Ref a → slice_index next a ≢ 0) → (j a : ℕ) → j < n + 1 → value_of (slice_index roots j) ≡ Ref a → slice_index next a ≢ 0
-placed_next row next roots n keeps before here j a less is = ⊎_elim
+pub placed_next : (t u : Theirs) (roots : List ℕ) (n : ℕ) → KeepsReplicas t u → ((j a : ℕ) → j < n → value_of (slice_index roots j) ≡ Ref a → IsSome (replica_of (its t) a))
+    → ((a : ℕ) → value_of (slice_index roots n) ≡ Ref a → IsSome (replica_of (its u) a)) → (j a : ℕ) → j < n + 1 → value_of (slice_index roots j) ≡ Ref a → IsSome (replica_of (its u) a)
+placed_next t u roots n keeps before here j a less is = ⊎_elim
     (λ (low : j < n). keeps a (before j a low is))
     (λ (high : n ≤ j). here a (subst (λ (x : ℕ). value_of (slice_index roots x) ≡ Ref a) (let e : j ≡ n = omega arith in e) is))
     (cases_lt j n)

@@ -22,7 +22,7 @@ use Rattle.gc_model.proofs.Public.{end_unused, lookup_in, lookup_laid}
 use Rattle.gc_model.specs.Members.{In}
 use Rattle.gc_model.specs.Belonging.{IsNamed, RefersTo, IsSpaceGraph}
 use Rattle.gc_copy.proofs.Public.{heap_graph}
-use Rattle.gc_concurrent.specs.Machines.{Does}
+use Rattle.gc_concurrent.specs.Machines.{Does, DoesAll}
 use Rattle.gc_concurrent.specs.Heaps.{GoesOnIn}
 use Rattle.gc_concurrent.specs.Law.{by_one, machine_after, Shows, AreReplies, AreAllReplies, HasNoFull, FindsNoRoom, EndsAt, ShowsAfter, Serves, Ran}
 
@@ -206,7 +206,7 @@ full_is true s t x reply f e y = (refl, ap (λ p. p.1) e)
 full_is false s t x reply f e y = absurd (let no : false ≡ true = sym f ∙ ap (λ p. is_full p.0) e ∙ y in cc)
 
 -- `Full` changes nothing, and there is no room
-no_room : (old new : HeapWords) (op : Op) (reply : Reply) → Does old op reply new → is_full reply ≡ true → (roomy_in old ≡ roomy_in new) × ((roomy_in new).free < words_taken op)
+pub no_room : (old new : HeapWords) (op : Op) (reply : Reply) → Does old op reply new → is_full reply ≡ true → (roomy_in old ≡ roomy_in new) × ((roomy_in new).free < words_taken op)
 no_room old new op reply does y =
     let p : (nat_lt (roomy_in old).free (words_taken op) ≡ true) × (roomy_in old ≡ roomy_in new)
     = full_is (nat_lt (roomy_in old).free (words_taken op)) (roomy_in old) (roomy_in new) (plain_step (roomy_in old) 0 op (end_of old.space)) reply (step_fine (graph_in old) 0 op (end_of old.space)) does y in
@@ -356,3 +356,20 @@ pub ran_leads : (heap new : HeapWords) (commands : List Op) (told : List Reply) 
 ran_leads heap new commands told is is' ran =
     subst (λ n. ShowsAfter heap commands n new) (as_told heap commands told new ran)
     (leads heap new commands [] told is' (going_ran (graph_in heap) (by_one commands) heap commands [] told new is (going_first (graph_in heap) (by_one commands)) ran))
+
+-- a call that performs several commands
+
+not_full : (reply : Reply) → is_fine reply ≡ true → is_full reply ≡ false
+not_full reply e = grind (arith, common_steps)
+
+pub all_ran : (heap new : HeapWords) (commands : List Op) (told : List Reply) → IsHeap heap → HasNoFull told → DoesAll heap commands told new → Ran heap commands told new
+all_ran heap new [] [] is fine did = λ g shows. subst (Shows g) (sym did) shows
+all_ran heap new [] (reply ∷ told) is fine did = absurd did
+all_ran heap new (op ∷ commands) [] is fine did = absurd did
+all_ran heap new (op ∷ commands) (reply ∷ told) is fine did = (
+  did.0,
+  did.1,
+  record { at = heap; sound = is; shown = λ g shows. shows; does = did.2 },
+  not_full reply ((and_parts _ _ fine).0),
+  all_ran did.0 new commands told did.1 ((and_parts _ _ fine).1) did.3,
+)

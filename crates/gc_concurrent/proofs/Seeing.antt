@@ -8,19 +8,24 @@ use lib.Seq.{set-get_or}
 use mathlib.Core.Option.{some, none}
 use Rattle.atomic_table.specs.Table.{step, keeps, stepped, Allows}
 use Rattle.gc_words.specs.Word.{read_header}
+use Rattle.gc_graph.specs.Graph.{Object}
 use Rattle.gc_words.specs.Image.{Block, block_at, header_of, header_at, field_at, fresh_block, is_start, walk_words}
 use Rattle.gc_words.specs.Layout.{field_place}
 use Rattle.gc_words.specs.Space.{SpaceWords, IsSpace}
 use Rattle.gc_words.specs.Spelling.{block_words}
 use Rattle.gc_words.specs.declared.header.Header.{Header}
-use Rattle.gc_words.proofs.Public.{field_read, some_of, stands_in}
+use Rattle.gc_words.proofs.Public.{field_read, fields_counted, object_found, some_of, stands_in}
 use Rattle.gc_monitor.specs.Watch.{IsSeen, IsNext}
 use Rattle.gc_monitor.proofs.Public.{all_of, start_there}
-use Rattle.gc_concurrent.specs.Ends.{Known}
-use Rattle.gc_concurrent.specs.Internal.Rule.{RootWords, IsConcurrent, Sat, Seated, SeesNext, seeing, tells_look, tells_header, tells_see}
+use Rattle.gc_model.specs.State.{Replica}
+use Rattle.gc_model.specs.Members.{In}
+use Rattle.gc_concurrent.specs.Ends.{Known, Mine, Theirs}
+use Rattle.gc_concurrent.specs.Internal.Rule.{RootWords, IsConcurrent, Sat, Seated, SeesEnd, SeesNext, IsOriginal, seeing, tells_look, tells_header, tells_see}
 use Rattle.gc_concurrent.specs.Internal.Told.{ComesFromSeen, seen_space}
 use Rattle.gc_concurrent.proofs.Hands.{St, seat_set, same}
 use Rattle.gc_concurrent.proofs.Shown.{shown_anew}
+use Rattle.gc_concurrent.proofs.Loosely.{block_is}
+use Rattle.gc_concurrent.proofs.Starting.{made_start_back, starts_back}
 use Rattle.gc_concurrent.proofs.Told.{field_stays, header_stays, look_told, see_told, seen_is_space}
 
 -- a space is seen whole
@@ -113,15 +118,48 @@ pub looks_at : (slots size id : ℕ) (me : Sat) (a i k : ℕ) → k ≡ field_pl
     → Allows (IsConcurrent size) slots id me k (λ x. x) (tells_look (step slots k 0 0 none) me)
 looks_at slots size id me a i k is copies has = subst (λ (z : ℕ). Allows (IsConcurrent size) slots id me z (λ x. x) (tells_look (step slots z 0 0 none) me)) (sym is) (looks_rule slots size id me a i copies has)
 
+-- the object of which the collector has a replica
+original_block : (size : ℕ) (s : St) (r : IsConcurrent size s) (q : Replica) → In q r.theirs.replicas
+    → (b : Block) × (block_at r.mine.space.words q.original ≡ Some b) × (b.header ≡ record { raw = q.object.raw; kind = q.object.kind; len = length q.object.fields })
+original_block size s r q there =
+    let words : List ℕ = r.mine.space.words in
+    let rep = (r.opened).belongs.replicas q there in
+    let b = block_is (block_at words q.original) rep.original (sym (object_found words q.original) ∙ rep.found) in
+    let raw : b.0.header.raw ≡ q.object.raw = ap (λ (x : Object). x.raw) b.2 ∙ sym rep.raw in
+    let kind : b.0.header.kind ≡ q.object.kind = ap (λ (x : Object). x.kind) b.2 ∙ sym rep.kind in
+    let len : b.0.header.len ≡ length q.object.fields = sym (fields_counted words q.original b.0 (r.space).walked b.1) ∙ ap (λ (x : Object). length x.fields) b.2 ∙ sym rep.len in
+    (b.0, b.1, λ i. record { raw = raw i; kind = kind i; len = len i })
+
+original_read : (size : ℕ) (s : St) (r : IsConcurrent size s) (seen : List ℕ) → r.seen ≡ seen → (k : ℕ) (q : Replica) → In q r.theirs.replicas → q.original ≡ k → IsOriginal seen (get_or s.words k 0) q
+original_read size s r seen is k q there at =
+    let words : List ℕ = r.mine.space.words in
+    let b = original_block size s r q there in
+    let st = stands_in words q.original b.0 (r.space).walked b.1 in
+    let told : ComesFromSeen seen r.mine = subst (λ ws. ComesFromSeen ws r.mine) is r.told in
+    record {
+      header = ap (λ n. read_header (get_or s.words n 0)) (sym at) ∙ (ap read_header (r.now q.original (let f = st.fits in omega arith)) ∙ st.header ∙ ap (λ (h : Header). Some h) b.2);
+      start = λ low. starts_back (seen_space seen r.mine) told.events told.could q.original low (ap (λ (z : SpaceWords). is_start z.words q.original) (sym told.now) ∙ ap is_some b.1);
+    }
+
 pub headers_rule : (slots size k id : ℕ) (me : Sat) → me.0.copies ≡ true → Allows (IsConcurrent size) slots id me k (λ x. x) (tells_header (step slots k 0 0 none) me)
-headers_rule slots size k id me copies s r _ seat _ =
-    (me.0, keeps, tt, same size s k id me.1 me.0 seat r, (refl, λ h has. header_now size s r me.0.seen (sym (r.shown id me.0 seat copies)) k h has))
+headers_rule slots size k id me copies s r _ seat _ = (
+  me.0,
+  keeps,
+  tt,
+  same size s k id me.1 me.0 seat r,
+  (
+    refl,
+    λ h has. header_now size s r me.0.seen (sym (r.shown id me.0 seat copies)) k h has,
+    λ q there at. original_read size s r me.0.seen (sym (r.shown id me.0 seat copies)) k q
+        (subst (λ (t : Theirs). In q t.replicas) ((r.seats id me.0 seat).1 copies).1 there) at,
+  ),
+)
 
 -- ---- the walk goes on
 
 -- what a load behind n words sees
 abbrev Sees : (size : ℕ) (s : St) (k id : ℕ) (me : Sat) → Type 0
-Sees size s k id me = (w : Known) × IsConcurrent size (stepped s k (get_or s.words k 0) id me.1 w keeps) × (IsSeen k me.0.seen → (get_or s.words k 0 ≡ 0 → (w, me.1) ≡ me) × (get_or s.words k 0 ≢ 0 → SeesNext k (get_or s.words k 0) me (w, me.1)))
+Sees size s k id me = (w : Known) × IsConcurrent size (stepped s k (get_or s.words k 0) id me.1 w keeps) × (IsSeen k me.0.seen → (get_or s.words k 0 ≡ 0 → SeesEnd k me (w, me.1)) × (get_or s.words k 0 ≢ 0 → SeesNext k (get_or s.words k 0) me (w, me.1)))
 
 module _ (size : ℕ) (s : St) (r : IsConcurrent size s) (k id : ℕ) (me : Sat) (seat : get_elem? s.views id ≡ some me.0) (copies : me.0.copies ≡ true) where
   is_seen : r.seen ≡ me.0.seen
@@ -132,6 +170,13 @@ module _ (size : ℕ) (s : St) (r : IsConcurrent size s) (k id : ℕ) (me : Sat)
 
   whole_here : IsSeen (length me.0.seen) me.0.seen
   whole_here = whole_seen (seen_space me.0.seen r.mine) (seen_is_space (seen_space me.0.seen r.mine) told_here.events told_here.could)
+
+  -- the words that were seen fit in the space
+  fits_seen : (seen : List ℕ) → ComesFromSeen seen r.mine → length seen ≤ me.0.theirs.old
+  fits_seen seen told =
+      let high : length seen ≤ r.mine.space.size = (seen_is_space (seen_space seen r.mine) told.events told.could).end_high in
+      let old : me.0.theirs.old ≡ size = ap (λ (t : Theirs). t.old) ((r.seats id me.0 seat).1 copies).1 ∙ r.older in
+      let sized = r.sized in omega arith
 
   -- a word below the end is a header where an object starts
   no_zero : (h : Header) → read_header (get_or s.words k 0) ≡ Some h → get_or s.words k 0 ≡ 0 → ⊥
@@ -152,6 +197,8 @@ module _ (size : ℕ) (s : St) (r : IsConcurrent size s) (k id : ℕ) (me : Sat)
             read = read;
             next = subst (λ ws. IsNext k ws h.0) (sym (append-nil me.0.seen)) h.1;
             whole = subst (λ ws. IsSeen (length ws) ws) (sym (append-nil me.0.seen)) whole_here;
+            fits = subst (λ ws. length {A = ℕ} ws ≤ me.0.theirs.old) (sym (append-nil me.0.seen)) (fits_seen me.0.seen told_here);
+            starts = λ a start _. subst (λ ws. is_start ws a ≡ true) (append-nil me.0.seen) start;
           },
         ),
   )
@@ -175,6 +222,11 @@ module _ (size : ℕ) (s : St) (r : IsConcurrent size s) (k id : ℕ) (me : Sat)
             read = now_header size s r seen f.1 k f.0 there;
             next = next_of_start seen k f.0 whole space.walked there;
             whole = whole;
+            fits = fits_seen seen f.1;
+            starts = λ a start less. ⊎_elim
+                (λ (e : length me.0.seen ≡ a). absurd (omega arith))
+                (λ before. before)
+                (made_start_back (seen_space me.0.seen r.mine) f.0 f.3 a start);
           },
         ),
       )
@@ -183,8 +235,20 @@ module _ (size : ℕ) (s : St) (r : IsConcurrent size s) (k id : ℕ) (me : Sat)
   nothing past inside = (
     me.0,
     same size s k id me.1 me.0 seat r,
-    λ upto. (λ zero. refl, λ other. absurd (other (r.free k past inside))),
+    λ upto. (
+      λ zero. record {
+        same = refl;
+        originals = λ q there. low_original q (subst (λ (t : Theirs). In q t.replicas) ((r.seats id me.0 seat).1 copies).1 there);
+        words = λ writes. subst (λ (m : Mine). length m.space.words ≤ k) (sym ((r.seats id me.0 seat).0 writes).1) past;
+      },
+      λ other. absurd (other (r.free k past inside)),
+    ),
   )
+    where
+      low_original : (q : Replica) → In q r.theirs.replicas → q.original < k
+      low_original q there =
+          let b = original_block size s r q there in
+          let f = (stands_in r.mine.space.words q.original b.0 (r.space).walked b.1).fits in omega arith
 
   behind_seen : length me.0.seen < k → Sees size s k id me
   behind_seen past = (me.0, same size s k id me.1 me.0 seat r, λ upto. absurd (omega (arith, past, upto.within)))

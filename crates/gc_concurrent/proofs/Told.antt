@@ -112,7 +112,7 @@ size_after s (Put a i w ∷ es) = size_after s es
 size_after s (Link a w ∷ es) = size_after s es
 size_after s (Make h ∷ es) = size_after s es
 
-long_after : (s : SpaceWords) (es : List Event) → length s.words ≤ length (after_all s es).words
+pub long_after : (s : SpaceWords) (es : List Event) → length s.words ≤ length (after_all s es).words
 long_after s [] = omega arith
 long_after s (Put a i w ∷ es) = omega (arith, long_after s es, length-set (after_all s es).words (field_place a i) w)
 long_after s (Link a w ∷ es) = omega (arith, long_after s es, length-set (after_all s es).words (link_place a) w)
@@ -288,13 +288,14 @@ made_first s (Make g ∷ es) could less = ⊎_elim
 
 -- where there are more words than were seen, the next object is seen as it was made
 pub see_told : (seen : List ℕ) (m : Mine) → ComesFromSeen seen m → length seen < length m.space.words
-    → (h : Header) × ComesFromSeen (seen ++ block_words 0 (fresh_block h)) m × (header_at (seen ++ block_words 0 (fresh_block h)) (length seen) ≡ Some h)
+    → (h : Header) × ComesFromSeen (seen ++ block_words 0 (fresh_block h)) m × (header_at (seen ++ block_words 0 (fresh_block h)) (length seen) ≡ Some h) × CanPlace (seen_space seen m) h
 see_told seen m is less =
     let s = seen_space seen m in
     let f = made_first s is.events is.could (subst (λ (w : SpaceWords). length seen < length w.words) is.now less) in (
       f.header,
       record { events = f.rest; could = f.could; now = is.now ∙ sym f.same; logged = λ e. f.written ∙ is.logged e },
       ap header_of (placed_block s f.header f.can),
+      f.can,
     )
 
 -- ---- a mutator's step

@@ -6,6 +6,7 @@ use mathlib.Core.Logic.{dite}
 use mathlib.Core.Option.{none, some}
 use native.Mathlib.Decide.{ℕ_discrete}
 use lib.ListN.{get_elem?}
+use lib.Seq.{set-get_or}
 use Rattle.atomic_table.specs.Table.{step, keeps, stepped, Allows}
 use Rattle.gc_graph.specs.Graph.{Value, Object, Graph, set_field, new_object}
 use Rattle.gc_words.specs.Word.{IsHeader, read_header, field_value, header_word}
@@ -13,7 +14,7 @@ use Rattle.gc_words.proofs.Public.{read_back, field_written, link_written, graph
 use Rattle.gc_words.specs.Layout.{field_place, link_place}
 use Rattle.gc_words.specs.Image.{Block, blocks, block_at, field_at, is_start, objects_of, object_of_block}
 use Rattle.gc_words.specs.Space.{SpaceWords, IsSpace, CanPlace, end_of, with_field_at}
-use Rattle.gc_words.specs.Closed.{IsFieldWord}
+use Rattle.gc_words.specs.Closed.{IsClosed, IsFieldWord}
 use Rattle.gc_words.specs.declared.header.Header.{Header}
 use Rattle.std.proofs.lemmas.List.{length-replicate}
 use Rattle.std.specs.Option.{option_map}
@@ -24,13 +25,13 @@ use Rattle.gc_model.proofs.Public.{Evolves, field_stays, lookup_left, lookup_wri
 use Rattle.gc_copy.proofs.Public.{words_numbers}
 use Rattle.gc_concurrent.specs.Ends.{Known, Mine, Theirs}
 use Rattle.gc_concurrent.specs.Internal.Plans.{collection_of, plan}
-use Rattle.gc_concurrent.specs.Internal.Rule.{RootWords, IsAtRest, IsConcurrent, wrote, made, linked_to, Sat, tells_get, tells_put, tells_new, tells_link}
+use Rattle.gc_concurrent.specs.Internal.Rule.{RootWords, IsAtRest, IsConcurrent, wrote, made, linked_to, referring, Sat, tells_get, tells_put, tells_new, tells_link, tells_refer}
 use Rattle.gc_concurrent.specs.Unreachable.{MayBeCopied}
 use Rattle.gc_concurrent.specs.Internal.Carrying.{FieldsLeadTo}
 use Rattle.gc_concurrent.proofs.Hands.{St, seats_mine, same}
 use Rattle.gc_concurrent.proofs.Shown.{shown_set}
 use Rattle.gc_concurrent.proofs.Told.{put_told, linked_told, made_told}
-use Rattle.gc_concurrent.proofs.Keeping.{kept_mine, set_leads, push_leads}
+use Rattle.gc_concurrent.proofs.Keeping.{kept_mine, kept_referring, set_leads, push_leads}
 
 -- ---- a word is read
 
@@ -322,7 +323,7 @@ news slots size id me h writes can s r _ here _ =
       keeps,
       tt,
       subst (λ (m : Mine). IsConcurrent size (stepped s (end_of m.space) (header_word h) id me.1 w keeps)) (sym to) allowed,
-      λ g hd e. λ k. (record me.0 { mine = made (same_header g h hd can.header e k) (sym to k) }, me.1),
+      (λ g hd e. λ k. (record me.0 { mine = made (same_header g h hd can.header e k) (sym to k) }, me.1), subst (λ (m : Mine). IsClosed m.space.words []) (sym to) r.closed),
     )
 
 -- ---- a link is written
@@ -381,6 +382,46 @@ links slots size id me a w writes start s r _ here _ =
       tt,
       link_keeps size s r id me.0 me.1 a w here writes (subst (λ (m : Mine). is_start m.space.words a ≡ true) to start),
       λ x e _. let one : a ≡ x = omega arith in λ k. (record me.0 { mine = linked_to (one k) w (sym to k) }, me.1),
+    )
+
+-- ---- a reference is made from an address
+
+refer_keeps : (size : ℕ) (s : St) (r : IsConcurrent size s) (k id : ℕ) (v : Known) (c : List (ℕ × RootWords)) → get_elem? s.views id ≡ some v → v.writes ≡ true
+    → IsConcurrent size (stepped s k (get_or s.words k 0) id c (record v { mine = referring r.mine }) keeps)
+refer_keeps size s r k id v c here writes =
+    let m' : Mine = referring r.mine in
+    subst (λ (ws : List ℕ). IsConcurrent size (record { words = ws; homes = s.homes; views = set s.views id (record v { mine = m' }) })) (sym (set-get_or s.words k 0)) (record {
+      mine = m';
+      theirs = r.theirs;
+      seen = r.seen;
+      writer = r.writer;
+      copier = r.copier;
+      wide = r.wide;
+      sized = r.sized;
+      older = r.older;
+      now = r.now;
+      free = r.free;
+      space = r.space;
+      closed = r.closed;
+      wanted = r.wanted;
+      opened = record { belongs = r.opened.belongs; size = r.opened.size; logs = r.opened.logs };
+      carries = kept_referring r.mine r.theirs r.carries;
+      fits = r.fits;
+      rests = λ e. let k = r.rests e in record { logged = k.logged; copied = k.copied; due = k.due; wanted = k.wanted };
+      seats = seats_mine r.writer r.copier id r.mine m' r.theirs s.views v here writes r.seats;
+      told = record { events = r.told.events; could = r.told.could; now = r.told.now; logged = r.told.logged };
+      shown = shown_set r.seen s.views id (record v { mine = m' }) (r.shown id v here) r.shown;
+    })
+
+pub refers : (slots size id : ℕ) (me : Sat) (k : ℕ) → me.0.writes ≡ true
+    → Allows (IsConcurrent size) slots id me k (λ x. x) (tells_refer (step slots k 0 0 none) me)
+refers slots size id me k writes s r _ here _ =
+    let to : me.0.mine ≡ r.mine = ((r.seats id me.0 here).0 writes).1 in (
+      record me.0 { mine = referring r.mine },
+      keeps,
+      tt,
+      refer_keeps size s r k id me.0 me.1 here writes,
+      λ j. (record me.0 { mine = referring (sym to j) }, me.1),
     )
 
 -- ---- the same for callers, who have the place and the word by equations

@@ -8,13 +8,17 @@ use Rattle.gc_model.specs.State.{Replica, Collection}
 abbrev pub one_heap : SpaceWords → List ℕ → HeapWords
 one_heap space roots = record { space = space; roots = roots; mutators = 1 }
 
--- The space, whether writes are logged, the fields that were logged since the log was last taken (oldest first), and the heap with which the
--- collection began.
+-- how a collection began for the mutator: with this heap, and whether the mutator has since made a reference from an address alone
+pub record Beginning : Type 0 where
+  pub heap : HeapWords
+  pub referred : Bool
+
+-- The space, whether writes are logged, the fields that were logged since the log was last taken (oldest first), and how the collection began.
 pub record Mine : Type 0 where
   pub space : SpaceWords
   pub logs : Bool
   pub log : List (ℕ × ℕ)
-  pub base : HeapWords
+  pub base : Beginning
 
 -- The size of the mutator's space, the new space as gc_model has it, the entries taken and not yet applied, addresses that were read and at
 -- which objects start, and the heap with which the collection began.
@@ -40,8 +44,12 @@ pub record Known : Type 0 where
   pub theirs : Theirs
   pub seen : List ℕ
 
+-- a collection of this heap that has just begun
+abbrev pub begun_with : HeapWords → Beginning
+begun_with heap = record { heap = heap; referred = false }
+
 abbrev pub opening_mine : HeapWords → Mine
-opening_mine heap = record { space = heap.space; logs = false; log = []; base = heap }
+opening_mine heap = record { space = heap.space; logs = false; log = []; base = begun_with heap }
 
 -- a collection of this heap, in a new space of this size, that has just begun
 abbrev pub opening_theirs : HeapWords → ℕ → ℕ → Theirs

@@ -6,14 +6,27 @@ use Rattle.atomic_table.specs.Seated.{TableId}
 use Rattle.gc_concurrent.specs.declared.commands.Commander.{Commander}
 use Rattle.gc_concurrent.specs.declared.copier.Copier.{Copier}
 use Rattle.gc_concurrent.specs.declared.held.Held.{Held}
-use Rattle.gc_concurrent.specs.Ends.{Theirs, its}
+use Rattle.gc_concurrent.specs.Ends.{Beginning, Theirs, its}
 use Rattle.gc_concurrent.specs.Heaps.{heap_of}
+use Rattle.gc_concurrent.specs.Moves.{MovesWords, Situation}
 use Rattle.gc_concurrent.specs.Nearing.{ComesNearer}
 use Rattle.gc_words.specs.Space.{end_of}
 
 -- the heap of a mutator that runs
 abbrev pub heap_in : Commander → HeapWords
 heap_in c = heap_of c.mutator.seat.me.0.mine c.roots.items
+
+-- what a mutator that runs knows of flips
+abbrev pub moves_in : Commander → MovesWords
+moves_in c = c.moves
+
+-- how the collection began for a mutator that runs: that heap, and whether the mutator has since made a reference from an address alone
+abbrev pub beginning_of : Commander → Beginning
+beginning_of c = c.mutator.seat.me.0.mine.base
+
+-- what it takes through a safepoint
+abbrev pub situation_in : Commander → Situation
+situation_in c = record { heap = heap_in c; moves = moves_in c; begun = beginning_of c }
 
 -- whether a mutator that runs logs its writes
 abbrev pub logs_writes : Commander → Bool
@@ -34,6 +47,14 @@ known_to c = c.seat.me.0.theirs
 -- the heap of the mutator that a collector holds
 abbrev pub heap_held : Held → HeapWords
 heap_held h = heap_of h.copier.seat.me.0.mine h.roots.items
+
+-- what that mutator knows of flips
+abbrev pub moves_held : Held → MovesWords
+moves_held h = h.moves
+
+-- how the collection began for that mutator
+abbrev pub beginning_held : Held → Beginning
+beginning_held h = h.copier.seat.me.0.mine.base
 
 -- Fewer steps are ahead of a collector that holds the mutator.
 abbrev pub IsNearer : Held → Held → Type 0

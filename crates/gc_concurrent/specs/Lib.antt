@@ -1,11 +1,15 @@
 pub mod Ends
 pub mod Unreachable
 pub mod Heaps
+pub mod Moves
 pub mod Holders
 pub mod Waiters
 pub mod Machines
 pub mod Works
+pub mod Referring
 pub mod Nearing
 pub mod Checking
+pub mod Turns
 pub mod Law
+pub mod Bulk
 pub mod Internal

@@ -16,3 +16,7 @@ steps_ahead end t = 2 * work_ahead end t + (if is_empty t.wanted then 1 else 0)
 -- fewer steps are ahead
 abbrev pub ComesNearer : ℕ → Theirs → Theirs → Type 0
 ComesNearer end old new = steps_ahead end new < steps_ahead end old
+
+-- The same beside a mutator, whose space has an end that the collector does not know: the size of the new space is in its place.
+abbrev pub GetsOn : Theirs → Theirs → Type 0
+GetsOn old new = ComesNearer old.size old new

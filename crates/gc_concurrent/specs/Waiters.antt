@@ -1,7 +1,12 @@
--- The heap that a mutator handed over.
+-- What a mutator handed over.
 use Rattle.gc_heap.specs.Heap.{HeapWords}
+use Rattle.gc_concurrent.specs.Moves.{Situation}
 use Rattle.gc_concurrent.specs.declared.handshake.Waiting.{Waiting}
 
--- the heap with which a mutator stopped
+-- what the mutator had when it stopped
+abbrev pub situation_left : Waiting → Situation
+situation_left w = w.seat.me.0.goer.left
+
+-- the heap with which it stopped
 abbrev pub heap_left : Waiting → HeapWords
-heap_left w = w.seat.me.0.goer.left
+heap_left w = (situation_left w).heap

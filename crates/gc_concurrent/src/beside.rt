@@ -141,7 +141,7 @@ fn prepared<R: Wait>(
 }
 
 /// Opens a heap of `size` words, and performs all commands in it, while a collector's thread collects and flips without a pause. Each flip
-/// asks `Sequential`. Returns the replies.
+/// rests on the standing checker. Returns the replies.
 pub fn beside_collector<R: Threads + Wait + Sync>(
     rt: &R,
     alloc: Global,

@@ -1,7 +1,8 @@
 //! A flip asks its checker. Both ends are in hand, so the words of both spaces stay as they are meanwhile.
-ghost use Rattle.std.specs.Prelude.{◌≡◌, ◌≤◌, ◌⊎◌, IfErr, IfOk, IsTrue, OnOk, length, true};
+ghost use Rattle.std.specs.Prelude.{◌≡◌, ◌≤◌, ◌⊎◌, IfErr, IfOk, IsTrue, OnErr, OnOk, length, true, false};
 ghost use Rattle.gc_concurrent.specs.Checking.{CertifiesFlip, IsVouchedBy, flip_shown};
 ghost use Rattle.gc_concurrent.specs.Ends.{one_heap};
+ghost use Rattle.gc_concurrent.specs.Turns.{IfAsked};
 ghost use Rattle.gc_concurrent.specs.Internal.Rule.{seeing};
 ghost use Rattle.gc_concurrent.specs.Internal.Flip.{Flips, HasNothingLeft, moved_words};
 
@@ -66,17 +67,21 @@ impl Copier {
 }
 
 impl Held {
-    ghost use Rattle.gc_concurrent.specs.Holders.{heap_held, known_to};
+    ghost use Rattle.gc_concurrent.specs.Holders.{heap_held, known_to, moves_held};
 
-    /// Asks the standing checker whether the mutator may go on in the new space with these roots. The checker first walks on to the end of the
-    /// mutator's space, by a load for each object that it has not seen. Allocates nothing.
+    /// If nothing is left to do, asks the standing checker whether the mutator may go on in the new space with these roots. The checker first walks on to the
+    /// end of the mutator's space, by a load for each object that it has not seen. It is proved to say yes. Allocates nothing.
     fn vouches(&mut self, moved: &[u64]) -> bool
+        requires left { HasNothingLeft self.old.roots.items self.old.copier.seat.me.0 }
+        requires moved { moved.now ≡ moved_words (known_to self.old.copier) self.old.roots.items }
+        ensures surely { IsTrue result }
         ensures yes { IsTrue result → IsVouchedBy self.old.copier.standing (heap_held self.old) (one_heap self.old.copier.space moved.now) }
         ensures told { HasNothingLeft self.old.roots.items self.old.copier.seat.me.0 → Flips self.old.roots.items self.old.copier.seat.me.0.mine self.old.copier.seat.me.0.theirs }
         ensures seen { self.new.copier.seat.me ≡ seeing self.new.copier.seat.me.0.seen self.old.copier.seat.me }
         ensures row { self.new.copier.seat.table_id ≡ self.old.copier.seat.table_id }
         ensures space { self.new.copier.space ≡ self.old.copier.space }
         ensures roots { self.new.roots ≡ self.old.roots }
+        ensures moves { moves_held self.new ≡ moves_held self.old }
     {
         a_yes_is_sound();
         let end = self.end;
@@ -102,19 +107,22 @@ impl Held {
         self.copier.standing.says_yes(old, new)
     }
 
-    /// Asks the standing checker, if nothing is left to do, and this one where that says no. Fails if this one refuses, which is proved never to occur,
-    /// or if an allocation fails.
+    /// If nothing is left to do, asks this checker if `whole` says so, and otherwise the standing one. Returns whether this one was asked. Fails if the one
+    /// that was asked refuses, which is proved never to occur, or if an allocation fails. The standing checker needs none.
     pub(crate) fn certify<C: Checks>(
         &mut self,
         alloc: Global,
         checker: &C,
         moved: &[u64],
-    ) -> Result<(), NoFlip>
+        whole: bool,
+    ) -> Result<bool, NoFlip>
         requires can { C.can_check checker.now }
         requires left { HasNothingLeft self.old.roots.items self.old.copier.seat.me.0 }
         requires moved { moved.now ≡ moved_words (known_to self.old.copier) self.old.roots.items }
-        ensures asked { OnOk result (IsVouchedBy self.old.copier.standing (heap_held self.old) (one_heap self.old.copier.space moved.now)
-            ⊎ C.says_yes checker.now (flip_shown (heap_held self.old) (known_to self.old.copier))) }
+        ensures asked { IfOk result (λ asked. IfAsked asked (C.says_yes checker.now (flip_shown (heap_held self.old) (known_to self.old.copier)))
+            (IsVouchedBy self.old.copier.standing (heap_held self.old) (one_heap self.old.copier.space moved.now))) }
+        ensures along { IfOk result (λ asked. asked ≡ whole) }
+        ensures room { whole ≡ false → OnErr result ⊥ }
         ensures certified { OnOk result (CertifiesFlip (heap_held self.old) (known_to self.old.copier)) }
         ensures memory { IfErr result (λ why. why ≡ NoFlip.NoMemory) }
         ensures told { Flips self.old.roots.items self.old.copier.seat.me.0.mine self.old.copier.seat.me.0.theirs }
@@ -122,11 +130,16 @@ impl Held {
         ensures row { self.new.copier.seat.table_id ≡ self.old.copier.seat.table_id }
         ensures space { self.new.copier.space ≡ self.old.copier.space }
         ensures roots { self.new.roots ≡ self.old.roots }
+        ensures moves { moves_held self.new ≡ moves_held self.old }
     {
-        if self.vouches(moved) {
-            return Ok(());
+        if whole {
+            self.check(alloc, checker, moved)?;
+            return Ok(true);
         }
-        self.check(alloc, checker, moved)
+        if !self.vouches(moved) {
+            return Err(NoFlip::Refused);
+        }
+        Ok(false)
     }
 
     /// Asks the checker whether the mutator may go on in the new space with these roots, if nothing is left to do. Fails if the checker refuses,
@@ -143,6 +156,7 @@ impl Held {
         ensures row { self.new.copier.seat.table_id ≡ self.old.copier.seat.table_id }
         ensures space { self.new.copier.space ≡ self.old.copier.space }
         ensures roots { self.new.roots ≡ self.old.roots }
+        ensures moves { moves_held self.new ≡ moves_held self.old }
     {
         self.copier.look();
         let end = self.end;

@@ -1,27 +1,30 @@
 //! The collector's thread: it makes replicas in the space of the next heap.
-ghost use Rattle.std.specs.Prelude.{◌≡◌, ◌≢◌, ℕ, ◌+◌, ◌-◌, ◌*◌, ◌^◌, ◌<◌, ◌≤◌, true, false, List, [], ◌∷◌, ◌++◌, drop, length, slice_index, IfOk, IfErr, IfSome, IfNone, IsTrue, IsFalse, ◌⊎◌, ◌&&◌, if◌then◌else◌, OnErr, OnOk};
+ghost use Rattle.std.specs.Prelude.{◌≡◌, ◌≢◌, ℕ, ◌+◌, ◌-◌, ◌*◌, ◌^◌, ◌<◌, ◌≤◌, true, false, List, [], ◌∷◌, ◌++◌, drop, length, slice_index, IfOk, IfErr, IfSome, IfNone, IsTrue, IsFalse, IsSome, ◌⊎◌, ◌&&◌, if◌then◌else◌, OnErr, OnOk};
 ghost use Rattle.std.specs.Arc.{arc_value};
 ghost use Rattle.gc_graph.specs.Graph.{Ref};
 ghost use Rattle.gc_words.specs.Word.{is_value, value_of};
 ghost use Rattle.gc_words.specs.Space.{IsSpace, end_of};
 ghost use Rattle.gc_words.specs.Closed.{IsRootWord};
 ghost use Rattle.gc_heap.specs.Heap.{IsHeap};
-ghost use Rattle.gc_model.specs.State.{Replica};
+ghost use Rattle.gc_model.specs.State.{Replica, replica_of};
 ghost use Rattle.gc_model.specs.Steps.{is_empty, scan_done};
 ghost use Rattle.gc_model.specs.Members.{In};
 ghost use Rattle.gc_copy.specs.Words.{replicas_in};
 ghost use Rattle.gc_concurrent.specs.Heaps.{heap_of};
 ghost use Rattle.gc_concurrent.specs.Internal.Flip.{HasNothingLeft, Flips};
+ghost use Rattle.gc_concurrent.specs.Moves.{half};
 ghost use Rattle.gc_concurrent.specs.Ends.{its};
 ghost use Rattle.gc_concurrent.specs.Unreachable.{MayBeCopied};
 ghost use Rattle.gc_concurrent.specs.Internal.Rule.{begun_anew, entries_of_fields, read_as, seeing, wants, Loose};
-ghost use Rattle.gc_concurrent.specs.Internal.Copiers.{Claims, KeepsClaims, KeepsSeat, Nears, StaysOrNears, logging, moved_by};
+ghost use Rattle.gc_concurrent.specs.Internal.Copiers.{Claims, KeepsSeat, Nears, StaysOrNears, logging, moved_by};
 ghost use Rattle.gc_concurrent.specs.Internal.Following.{Follows};
+ghost use Rattle.gc_concurrent.specs.Internal.Knowing.{Knows};
 ghost use Rattle.gc_concurrent.specs.Works.{WhereDone, WhereNoRoom};
 ghost use Rattle.gc_concurrent.specs.Internal.Props.{replicas_prop, claims_prop, space_prop};
 ghost use Rattle.gc_concurrent.specs.Internal.Spares.{claims_spared};
 
 use crate::cells::{Cells, CellsEnd};
+use crate::moves::half;
 use crate::next::NextSpace;
 use crate::plays::{Applied, Flipped, Left, Passed, Placed, Renewed, Rooted, Scanned};
 use crate::spare::{Former, Spare};
@@ -30,6 +33,7 @@ use gc_graph::{NoMemory, object_words};
 use gc_monitor::Monitor;
 use gc_words::{Addr, Header, Value, encode, field_index, target_of};
 use std::alloc::Global;
+use std::cmp::max;
 use std::sync::Arc;
 
 /// What a step of the collector did. `Done`: nothing is due, and every replica is scanned. `NoRoom`: a replica found no room.
@@ -46,7 +50,7 @@ pub struct Copier {
     pub(crate) cells: Arc<Cells, Global>,
     pub seat: CellsEnd,
     pub(crate) space: NextSpace,
-    // The place of each object's replica, or 0.
+    // The place of each object's replica, or 0, by half of the object's address.
     pub(crate) claims: Vec<u32>,
     // The entries taken of the mutator, of which the first `next` are done.
     pub(crate) due: Vec<(u32, u16)>,
@@ -74,28 +78,29 @@ pub struct Copier {
     ghost scans: { (seat.me.0.theirs.scan_place ≡ scan_place) × (seat.me.0.theirs.scan_field ≡ scan_field) },
     ghost dues: { (seat.me.0.theirs.due ≡ entries_of_fields fill fill_next fill_left ++ drop next due.items) × (next ≤ length due.items) × (fill_next + fill_left < 2 ^ 16) },
     ghost wants: { seat.me.0.theirs.wanted ≡ (if has_wanted then wanted ∷ [] else []) },
-    ghost aimed: { has_wanted ≡ true → (fill_left ≡ 0) × (slice_index claims.items wanted ≡ 0) },
+    ghost aimed: { has_wanted ≡ true → (fill_left ≡ 0) × (slice_index claims.items (half wanted) ≡ 0) },
     ghost fills: { (q : Replica) → In q seat.me.0.theirs.replicas → q.original ≡ fill → fill_left ≢ 0 → q.object.raw ≡ true },
     ghost claimed: { Claims claims.items seat.me.0.theirs } by { claims_prop _ _ },
     ghost loose: { ∥ Loose seat.me.0.theirs ∥₁ },
     ghost along: { ∥ Follows standing seat.me.0.seen space.words ∥₁ },
-    ghost spared: { claims_spared spare space.size ≡ space.size },
+    ghost knows: { ∥ Knows standing seat.me.0.seen space.words seat.me.0.theirs ∥₁ },
+    ghost spared: { claims_spared spare (half space.size) ≡ half space.size },
 }
 
 // The word as it refers to replicas, or its target, if that has none.
 pub(crate) fn moved_word(claims: &[u32], word: u64) -> Result<u64, Addr>
     requires value { IsTrue (is_value word) }
-    requires inside { (a : ℕ) → value_of word ≡ Ref a → a < length claims.now }
-    requires places { (a : ℕ) → slice_index claims.now a < 4294967295 }
+    requires inside { (a : ℕ) → value_of word ≡ Ref a → half a < length claims.now }
+    requires places { (k : ℕ) → slice_index claims.now k < 4294967295 }
     ensures moved { IfOk result (λ w. value_of w ≡ moved_by claims.now (value_of word)) }
-    ensures placed { IfOk result (λ w. (a : ℕ) → value_of word ≡ Ref a → slice_index claims.now a ≢ 0) }
+    ensures placed { IfOk result (λ w. (a : ℕ) → value_of word ≡ Ref a → slice_index claims.now (half a) ≢ 0) }
     ensures value { IfOk result (λ w. IsTrue (is_value w)) }
-    ensures wanted { IfErr result (λ a. (value_of word ≡ Ref a.0) × (slice_index claims.now a.0 ≡ 0)) }
+    ensures wanted { IfErr result (λ a. (value_of word ≡ Ref a.0) × (slice_index claims.now (half a.0) ≡ 0)) }
 {
     let Some(at) = target_of(word) else {
         return Ok(word);
     };
-    let place = claims[at.0 as usize];
+    let place = claims[half(at.0)];
     if place == 0 {
         return Err(at);
     }
@@ -105,12 +110,12 @@ pub(crate) fn moved_word(claims: &[u32], word: u64) -> Result<u64, Addr>
 // The word of a field of an object that is raw or not, as it refers to replicas, or its target, if that has none.
 fn moved_field(raw: bool, claims: &[u32], word: u64) -> Result<u64, Addr>
     requires value { raw ≡ false → IsTrue (is_value word) }
-    requires inside { (a : ℕ) → read_as raw word ≡ Ref a → a < length claims.now }
-    requires places { (a : ℕ) → slice_index claims.now a < 4294967295 }
+    requires inside { (a : ℕ) → read_as raw word ≡ Ref a → half a < length claims.now }
+    requires places { (k : ℕ) → slice_index claims.now k < 4294967295 }
     ensures moved { IfOk result (λ w. read_as raw w ≡ moved_by claims.now (read_as raw word)) }
-    ensures placed { IfOk result (λ w. (a : ℕ) → read_as raw word ≡ Ref a → slice_index claims.now a ≢ 0) }
+    ensures placed { IfOk result (λ w. (a : ℕ) → read_as raw word ≡ Ref a → slice_index claims.now (half a) ≢ 0) }
     ensures value { IfOk result (λ w. raw ≡ false → IsTrue (is_value w)) }
-    ensures wanted { IfErr result (λ a. (read_as raw word ≡ Ref a.0) × (slice_index claims.now a.0 ≡ 0)) }
+    ensures wanted { IfErr result (λ a. (read_as raw word ≡ Ref a.0) × (slice_index claims.now (half a.0) ≡ 0)) }
 {
     if raw {
         return Ok(word);
@@ -189,7 +194,6 @@ impl Copier {
         requires clear { self.old.has_wanted ≡ false }
         requires filled { self.old.fill_left ≡ 0 }
         ensures nears { Nears self.old.seat.me self.new.seat.me }
-        ensures claims { self.new.claims.items ≡ self.old.claims.items }
         ensures seat { KeepsSeat self.old.seat.me self.new.seat.me }
         ensures row { (self.new.seat.table_id ≡ self.old.seat.table_id) × (self.new.size ≡ self.old.size) }
     {
@@ -237,7 +241,6 @@ impl Copier {
         ensures seat { KeepsSeat self.old.seat.me self.new.seat.me }
         ensures row { (self.new.seat.table_id ≡ self.old.seat.table_id) × (self.new.size ≡ self.old.size) }
         ensures none { result ≡ false → self.new.seat.me.0.theirs.due ≡ [] }
-        ensures claims { self.new.claims.items ≡ self.old.claims.items }
         ensures filled { self.old.fill_left ≢ 0 → (self.new.has_wanted ≡ false) × (self.new.fill_left + 1 ≡ self.old.fill_left) }
     {
         let Some(oldest) = oldest_of(
@@ -249,7 +252,7 @@ impl Copier {
         ) else {
             return false;
         };
-        let place = self.claims[oldest.name as usize];
+        let place = self.claims[half(oldest.name)];
         let cells = &*self.cells;
         if place == 0 {
             cells.shared.load::<Left>(&mut self.seat, 0);
@@ -295,8 +298,7 @@ impl Copier {
         requires wanted { self.old.has_wanted ≡ true }
         ensures nears { IsTrue result → Nears self.old.seat.me self.new.seat.me }
         ensures clear { IsTrue result → self.new.has_wanted ≡ false }
-        ensures claims { KeepsClaims self.old.claims.items self.new.claims.items }
-        ensures placed { IsTrue result → slice_index self.new.claims.items self.old.wanted ≢ 0 }
+        ensures placed { IsTrue result → IsSome (replica_of (its self.new.seat.me.0.theirs) self.old.wanted) }
         ensures seat { KeepsSeat self.old.seat.me self.new.seat.me }
         ensures room { IsFalse result → self.new.seat.me.0.theirs.size < self.new.seat.me.0.theirs.old }
         ensures row { (self.new.seat.table_id ≡ self.old.seat.table_id) × (self.new.size ≡ self.old.size) }
@@ -318,7 +320,7 @@ impl Copier {
             name,
             header.word(),
         );
-        self.claims[name as usize] = at.0;
+        self.claims[half(name)] = at.0;
         self.has_wanted = false;
         self.fill = name;
         self.fill_next = 0;
@@ -334,7 +336,6 @@ impl Copier {
         ensures room { WhereNoRoom result (self.new.seat.me.0.theirs) }
         ensures nears { result ≡ Work.Step → Nears self.old.seat.me self.new.seat.me }
         ensures still { result ≡ Work.Done → self.new.seat.me ≡ self.old.seat.me }
-        ensures claims { KeepsClaims self.old.claims.items self.new.claims.items }
     {
         if self.has_wanted {
             return if self.place_wanted() {
@@ -357,7 +358,6 @@ impl Copier {
     fn fill_up(&mut self)
         requires clear { self.old.has_wanted ≡ false }
         ensures settled { (self.new.has_wanted ≡ false) × (self.new.fill_left ≡ 0) }
-        ensures claims { self.new.claims.items ≡ self.old.claims.items }
         ensures nears { StaysOrNears self.old.seat.me self.new.seat.me }
         ensures seat { KeepsSeat self.old.seat.me self.new.seat.me }
         ensures row { (self.new.seat.table_id ≡ self.old.seat.table_id) × (self.new.size ≡ self.old.size) }
@@ -371,8 +371,7 @@ impl Copier {
     /// Places the object that is wanted, if there is one, and fills the raw replica that was placed last. Returns false if there is no room.
     pub(crate) fn settle(&mut self) -> bool
         ensures settled { IsTrue result → (self.new.has_wanted ≡ false) × (self.new.fill_left ≡ 0) }
-        ensures placed { IsTrue result → self.old.has_wanted ≡ true → slice_index self.new.claims.items self.old.wanted ≢ 0 }
-        ensures claims { KeepsClaims self.old.claims.items self.new.claims.items }
+        ensures placed { IsTrue result → self.old.has_wanted ≡ true → IsSome (replica_of (its self.new.seat.me.0.theirs) self.old.wanted) }
         ensures nears { IsTrue result → StaysOrNears self.old.seat.me self.new.seat.me }
         ensures seat { KeepsSeat self.old.seat.me self.new.seat.me }
         ensures room { IsFalse result → self.new.seat.me.0.theirs.size < self.new.seat.me.0.theirs.old }
@@ -414,12 +413,12 @@ impl Copier {
         requires both { self.old.seat.me.0.writes ≡ true }
         requires taken { self.old.seat.me.0.mine.log ≡ [] }
         requires low { at.0 < self.old.size }
-        requires allowed { MayBeCopied self.old.seat.me.0.theirs.base at.0 }
-        requires clear { slice_index self.old.claims.items at.0 ≡ 0 }
+        requires allowed { MayBeCopied self.old.seat.me.0.mine.base at.0 }
+        requires clear { slice_index self.old.claims.items (half at.0) ≡ 0 }
         requires filled { self.old.fill_left ≡ 0 }
         requires root { (w : ℕ) × IsRootWord self.old.seat.me.0.mine.space.words w × (value_of w ≡ Ref at.0) }
         ensures wants { self.new.seat.me.0.theirs ≡ wants at.0 self.old.seat.me.0.theirs }
-        ensures wanted { (self.new.has_wanted ≡ true) × (self.new.wanted ≡ at.0) × (self.new.claims.items ≡ self.old.claims.items) }
+        ensures wanted { (self.new.has_wanted ≡ true) × (self.new.wanted ≡ at.0) }
         ensures seat { KeepsSeat (logging self.old.seat.me) self.new.seat.me }
         ensures row { (self.new.seat.table_id ≡ self.old.seat.table_id) × (self.new.size ≡ self.old.size) }
     {
@@ -440,7 +439,7 @@ impl Copier {
         self.former = None;
         let space = NextSpace::new(alloc, size)?;
         let spare = Spare::new(alloc, size)?;
-        let reserved = self.standing.reserve(size);
+        let reserved = self.standing.reserve(max(size, self.size));
         if reserved.is_err() {
             return Err(NoMemory);
         }
@@ -464,7 +463,7 @@ impl Copier {
 
     /// Takes the memory that a flip needs. Makes it if none was prepared: the new space then has one word.
     pub(crate) fn take_spare(&mut self, alloc: Global) -> Result<Spare, NoMemory>
-        ensures long { IfOk result (λ spare. length spare.claims.items ≡ self.old.space.size) }
+        ensures long { IfOk result (λ spare. length spare.claims.items ≡ half self.old.space.size) }
         ensures same { self.new.seat.me ≡ self.old.seat.me }
         ensures space { self.new.space ≡ self.old.space }
         ensures row { (self.new.seat.table_id ≡ self.old.seat.table_id) × (self.new.size ≡ self.old.size) }
@@ -478,7 +477,8 @@ impl Copier {
     /// The standing checker walks on up to this end of the mutator's space.
     pub(crate) fn see(&mut self, end: u32)
         requires { end ≤ self.old.size }
-        ensures same { IsFalse self.new.standing.lost → record self.new.standing { olds = self.old.standing.olds } ≡ self.old.standing }
+        ensures same { record self.new.standing { olds = self.old.standing.olds } ≡ self.old.standing }
+        ensures words { self.old.seat.me.0.writes ≡ true → end ≤ length self.old.seat.me.0.mine.space.words → end ≤ length self.new.standing.olds }
         ensures seen { self.new.seat.me ≡ seeing self.new.seat.me.0.seen self.old.seat.me }
         ensures row { (self.new.seat.table_id ≡ self.old.seat.table_id) × (self.new.size ≡ self.old.size) }
         ensures space { self.new.space ≡ self.old.space }
@@ -496,6 +496,7 @@ impl Copier {
         ensures space { self.new.space ≡ self.old.space }
         ensures standing { self.new.standing ≡ self.old.standing }
         ensures along { self.old.seat.me.0.mine.log ≡ [] → ∥ Follows self.new.standing self.old.seat.me.0.mine.space.words self.old.space.words ∥₁ }
+        ensures knows { self.old.seat.me.0.mine.log ≡ [] → ∥ Knows self.new.standing self.old.seat.me.0.mine.space.words self.old.space.words self.old.seat.me.0.theirs ∥₁ }
         ensures told { (roots : List ℕ) → IsHeap (heap_of self.old.seat.me.0.mine roots) → HasNothingLeft roots self.old.seat.me.0 → Flips roots self.old.seat.me.0.mine self.old.seat.me.0.theirs }
     {
         let cells = &*self.cells;

@@ -1,5 +1,5 @@
 //! Both ends of a heap in one hand: the log changes hands, roots get replicas, and the mutator goes on in the new space.
-ghost use Rattle.std.specs.Prelude.{◌≡◌, ◌≢◌, ◌⊎◌, ℕ, ◌<◌, ◌≤◌, true, false, List, [], ◌∷◌, length, map, slice_index, IfOk, IfErr, IfSome, IfNone, IsTrue, OnErr, OnOk};
+ghost use Rattle.std.specs.Prelude.{◌≡◌, ◌≢◌, ◌⊎◌, ℕ, ◌/◌, ◌<◌, ◌≤◌, true, false, List, [], ◌∷◌, length, map, slice_index, vec_capacity, IfOk, IfErr, IfSome, IfNone, IsSome, IsTrue, OnErr, OnOk};
 ghost use Rattle.std.specs.Arc.{arc_value};
 ghost use Rattle.std.specs.List.{All};
 ghost use Rattle.gc_graph.specs.Graph.{Ref};
@@ -9,24 +9,28 @@ ghost use Rattle.gc_words.specs.Closed.{IsRootWord};
 ghost use Rattle.gc_words.specs.Space.{end_of};
 ghost use Rattle.gc_heap.specs.ExtraRoots.{most_extra_roots};
 ghost use Rattle.gc_heap.specs.Heap.{IsHeap, empty_heap, graph_in};
-ghost use Rattle.gc_model.specs.State.{new_graph, pairs_of};
+ghost use Rattle.gc_model.specs.State.{new_graph, pairs_of, replica_of};
 ghost use Rattle.gc_model.specs.Steps.{scan_done};
 ghost use Rattle.gc_model.specs.Members.{In};
 ghost use Rattle.gc_concurrent.specs.Heaps.{heap_of};
 ghost use Rattle.gc_model.specs.Carried.{LeadsOnlyTo};
 ghost use Rattle.gc_concurrent.specs.Unreachable.{MayBeCopied, CopiesNothingUnreachable};
 ghost use Rattle.gc_concurrent.specs.Internal.Props.{heap_prop, leads_prop};
-ghost use Rattle.gc_concurrent.specs.Ends.{its, one_heap, opening_theirs};
-ghost use Rattle.gc_concurrent.specs.Internal.Rule.{entries_of_fields};
+ghost use Rattle.gc_concurrent.specs.Ends.{begun_with, its, one_heap, opening_theirs};
+ghost use Rattle.gc_concurrent.specs.Internal.Rule.{entries_of_fields, StartsThere};
+ghost use Rattle.gc_concurrent.specs.Internal.Starts.{TellsStarts};
 ghost use Rattle.gc_concurrent.specs.Internal.Flip.{HasNothingLeft, Flips};
-ghost use Rattle.gc_concurrent.specs.Internal.Copiers.{AreClaimed, KeepsClaims, LacksOne, moved_by};
-ghost use Rattle.gc_concurrent.specs.Heaps.{CorrespondsTo};
+ghost use Rattle.gc_concurrent.specs.Internal.Copiers.{AreClaimed, KeepsReplicas, LacksOne, moved_by};
+ghost use Rattle.gc_concurrent.specs.Moves.{FlipsTo, half, no_moves};
 ghost use Rattle.gc_concurrent.specs.Internal.Following.{Follows};
+ghost use Rattle.gc_concurrent.specs.Internal.Knowing.{Knows};
 ghost use Rattle.gc_concurrent.specs.Checking.{CertifiesFlip, IsVouchedBy, flip_shown};
+ghost use Rattle.gc_concurrent.specs.Turns.{IfAsked};
 
 use crate::cells::Cells;
 use crate::commands::Commander;
 use crate::copier::{Copier, Work, moved_word};
+use crate::moves::Moves;
 use crate::mutator::Mutator;
 use crate::next::{NextSpace, Opened};
 use crate::plays::{Roles, Took};
@@ -35,7 +39,7 @@ use crate::watching::tell;
 use gc_check::Checks;
 use gc_graph::NoMemory;
 use gc_monitor::Monitor;
-use std::alloc::{AllocError, AllocFailed, Global};
+use std::alloc::Global;
 use std::sync::Arc;
 
 /// A mutator and its collector. One seat is both ends, and the mutator's log is empty.
@@ -47,14 +51,19 @@ pub struct Held {
     pub(crate) log: Vec<(u32, u16)>,
     pub roots: Vec<u64>,
     pub(crate) end: u32,
+    pub moves: Moves,
+    pub(crate) starts: Vec<u64>,
     ghost both: { copier.seat.me.0.writes ≡ true },
     ghost row: { ((arc_value other).shared.table_id ≡ copier.seat.table_id) × ((arc_value other).shared.key.size ≡ copier.size) },
     ghost logging: { copier.seat.me.0.mine.logs ≡ logs },
     ghost empty: { (log.items ≡ []) × (copier.seat.me.0.mine.log ≡ []) },
     ghost ended: { (length copier.seat.me.0.mine.space.words ≡ end) × (copier.seat.me.0.mine.space.size ≡ copier.size) },
     ghost sound: { IsHeap (heap_of copier.seat.me.0.mine roots.items) } by { heap_prop (heap_of copier.seat.me.0.mine roots.items) },
-    ghost behind: { end_of copier.seat.me.0.mine.base.space ≤ end },
-    ghost begun: { copier.seat.me.0.theirs.base ≡ copier.seat.me.0.mine.base },
+    ghost behind: { end_of copier.seat.me.0.mine.base.heap.space ≤ end },
+    ghost begun: { copier.seat.me.0.theirs.base ≡ copier.seat.me.0.mine.base.heap },
+    ghost wide: { copier.size / 64 < length starts.items },
+    ghost marked: { TellsStarts starts.items copier.seat.me.0.mine.space.words },
+    ghost starts_there: { StartsThere copier.seat.me.0.mine copier.seat.me.0.theirs },
     ghost leads: { LeadsOnlyTo (MayBeCopied copier.seat.me.0.mine.base) (graph_in (heap_of copier.seat.me.0.mine roots.items)) } by { leads_prop copier.seat.me.0.mine.base _ },
 }
 
@@ -63,6 +72,8 @@ pub(crate) fn hold(commander: Commander, copier: Copier) -> Held
     requires row { commander.mutator.seat.table_id ≡ copier.seat.table_id }
     requires applied { copier.seat.me.0.theirs.due ≡ [] }
     ensures heap { heap_of result.copier.seat.me.0.mine result.roots.items ≡ heap_of commander.mutator.seat.me.0.mine commander.roots.items }
+    ensures moves { result.moves ≡ commander.moves }
+    ensures begun { result.copier.seat.me.0.mine.base ≡ commander.mutator.seat.me.0.mine.base }
     ensures row { result.copier.seat.table_id ≡ copier.seat.table_id }
     ensures log { result.copier.seat.me.0.theirs ≡ record copier.seat.me.0.theirs { due = commander.mutator.log.items } }
 {
@@ -70,6 +81,7 @@ pub(crate) fn hold(commander: Commander, copier: Copier) -> Held
         mutator,
         roots,
         end,
+        moves,
     } = commander;
     let Mutator {
         cells: other,
@@ -77,6 +89,7 @@ pub(crate) fn hold(commander: Commander, copier: Copier) -> Held
         logs,
         log,
         size: _,
+        starts,
     } = mutator;
     let Copier {
         cells,
@@ -98,8 +111,8 @@ pub(crate) fn hold(commander: Commander, copier: Copier) -> Held
         size,
     } = copier;
     cells.shared.join_seat::<Roles>(&mut own, seat);
-    tell(&mut standing, claims.as_slice(), log.as_slice());
     cells.shared.load::<Took>(&mut own, 0);
+    tell(&mut standing, claims.as_slice(), log.as_slice());
     let mut empty = due;
     empty.clear();
     Held {
@@ -127,32 +140,36 @@ pub(crate) fn hold(commander: Commander, copier: Copier) -> Held
         log: empty,
         roots,
         end,
+        moves,
+        starts,
     }
 }
 
 // The root words as they refer to replicas. Fails if the target of one has none.
 fn moved_roots(alloc: Global, claims: &[u32], roots: &[u64]) -> Result<Vec<u64>, NoFlip>
     requires values { (k : ℕ) → k < length roots.now → IsTrue (is_value (slice_index roots.now k)) }
-    requires inside { (k a : ℕ) → k < length roots.now → value_of (slice_index roots.now k) ≡ Ref a → a < length claims.now }
-    requires places { (a : ℕ) → slice_index claims.now a < 4294967295 }
+    requires inside { (k a : ℕ) → k < length roots.now → value_of (slice_index roots.now k) ≡ Ref a → half a < length claims.now }
+    requires places { (k : ℕ) → slice_index claims.now k < 4294967295 }
     ensures moved { IfOk result (λ v. v.items ≡ map (λ w. word_of (moved_by claims.now (value_of w))) roots.now) }
     ensures placed { OnOk result (AreClaimed claims.now roots.now) }
     ensures lacking { IfErr result (λ why. why ≡ NoFlip.NotReady → LacksOne claims.now roots.now) }
     ensures never_refused { IfErr result (λ why. why ≢ NoFlip.Refused) }
 {
-    let mut moved = Vec::new(alloc);
+    let mut moved = with_room(alloc, roots.len())?;
     for k in 0..roots.len() {
         match moved_word(claims, roots[k]) {
-            Ok(word) => {
-                match moved.push(word) {
-                    Ok(()) => {}
-                    Err(AllocFailed { .. }) => return Err(NoFlip::NoMemory),
-                }
-            }
+            Ok(word) => moved.push_reserved(word),
             Err(_) => return Err(NoFlip::NotReady),
         }
     }
     Ok(moved)
+}
+
+// Returns an empty row with room for so many words. Allocates once.
+fn with_room(alloc: Global, count: usize) -> Result<Vec<u64>, NoMemory>
+    ensures { IfOk result (λ v. (v.items ≡ []) × (count ≤ vec_capacity v)) }
+{
+    Ok(Vec::with_capacity(alloc, count)?)
 }
 
 /// Why a flip was not made.
@@ -179,12 +196,14 @@ impl From<NoMemory> for NoFlip {
 impl Held {
     ghost use Rattle.std.specs.Prelude.{IsFalse};
     ghost use Rattle.gc_concurrent.specs.Works.{KeepsBeginning, WhereDone, WhereNoRoom};
-    ghost use Rattle.gc_concurrent.specs.Holders.{heap_in, heap_held, known_to, logs_writes, may_flip, roots_placed, IsNearer, StaysOrIsNearer};
+    ghost use Rattle.gc_concurrent.specs.Holders.{beginning_held, beginning_of, heap_held, heap_in, known_to, logs_writes, may_flip, moves_held, moves_in, roots_placed, situation_in, IsNearer, StaysOrIsNearer};
     ghost use Rattle.gc_concurrent.specs.Internal.Settled.{IsSettled};
 
     /// Performs one step of the collector, while the mutator waits.
     pub(crate) fn work(&mut self) -> Work
         ensures heap { heap_held self.new ≡ heap_held self.old }
+        ensures moves { moves_held self.new ≡ moves_held self.old }
+        ensures since { beginning_held self.new ≡ beginning_held self.old }
         ensures done { WhereDone result (known_to self.new.copier) }
         ensures room { WhereNoRoom result (known_to self.new.copier) }
         ensures nearer { result ≡ Work.Step → IsNearer self.old self.new }
@@ -199,7 +218,9 @@ impl Held {
     /// Lets the mutator go on in the same space.
     pub(crate) fn release(self) -> (Commander, Copier)
         ensures heap { heap_in result.0 ≡ heap_held self }
+        ensures moves { moves_in result.0 ≡ moves_held self }
         ensures known { known_to result.1 ≡ known_to self.copier }
+        ensures begun { beginning_of result.0 ≡ beginning_held self }
         ensures row { (result.0.mutator.seat.table_id ≡ result.1.seat.table_id) × (result.1.seat.table_id ≡ self.copier.seat.table_id) }
     {
         let Held {
@@ -209,6 +230,8 @@ impl Held {
             log,
             roots,
             end,
+            moves,
+            starts,
         } = self;
         let Copier {
             cells,
@@ -238,9 +261,11 @@ impl Held {
                     logs,
                     log,
                     size,
+                    starts,
                 },
                 roots,
                 end,
+                moves,
             },
             Copier {
                 cells,
@@ -269,10 +294,12 @@ impl Held {
         requires root { k < length self.old.roots.items }
         requires settled { IsSettled self.old.copier }
         ensures settled { IsTrue result → IsSettled self.new.copier }
-        ensures placed { IsTrue result → (a : ℕ) → value_of (slice_index self.old.roots.items k) ≡ Ref a → slice_index self.new.copier.claims.items a ≢ 0 }
-        ensures claims { KeepsClaims self.old.copier.claims.items self.new.copier.claims.items }
+        ensures placed { IsTrue result → (a : ℕ) → value_of (slice_index self.old.roots.items k) ≡ Ref a → IsSome (replica_of (its (known_to self.new.copier)) a) }
+        ensures replicas { KeepsReplicas (known_to self.old.copier) (known_to self.new.copier) }
         ensures roots { self.new.roots.items ≡ self.old.roots.items }
         ensures heap { heap_held self.new ≡ heap_held self.old }
+        ensures moves { moves_held self.new ≡ moves_held self.old }
+        ensures since { beginning_held self.new ≡ beginning_held self.old }
         ensures nearer { IsTrue result → StaysOrIsNearer self.old self.new }
         ensures room { IsFalse result → (known_to self.new.copier).size < (known_to self.new.copier).old }
         ensures begun { KeepsBeginning (known_to self.old.copier) (known_to self.new.copier) }
@@ -294,6 +321,8 @@ impl Held {
     pub(crate) fn place_roots(&mut self) -> bool
         ensures placed { IsTrue result → roots_placed self.new ≡ true }
         ensures heap { heap_held self.new ≡ heap_held self.old }
+        ensures moves { moves_held self.new ≡ moves_held self.old }
+        ensures since { beginning_held self.new ≡ beginning_held self.old }
         ensures nearer { IsTrue result → StaysOrIsNearer self.old self.new }
         ensures room { IsFalse result → (known_to self.new.copier).size < (known_to self.new.copier).old }
         ensures begun { KeepsBeginning (known_to self.old.copier) (known_to self.new.copier) }
@@ -316,20 +345,25 @@ impl Held {
         mut self,
         alloc: Global,
         checker: &C,
-    ) -> Result<(Commander, Copier), (Held, NoFlip)>
+        whole: bool,
+    ) -> Result<(Commander, Copier, bool), (Held, NoFlip)>
         requires { C.can_check checker.now }
-        ensures ok { IfOk result (λ r. CorrespondsTo (heap_held self) (heap_in r.0)) }
+        ensures ok { IfOk result (λ r. FlipsTo (record { heap = heap_held self; moves = moves_held self; begun = beginning_held self }) (situation_in r.0)) }
         ensures replicas { IfOk result (λ r. graph_in (heap_in r.0) ≡ new_graph (its (known_to self.copier)) (map value_of self.roots.items)) }
         ensures space { IfOk result (λ r. r.0.mutator.size ≡ (known_to self.copier).size) }
         ensures fresh { IfOk result (λ r. known_to r.1 ≡ opening_theirs (heap_in r.0) (known_to self.copier).size 1) }
         ensures rests { IfOk result (λ r. logs_writes r.0 ≡ false) }
-        ensures carried { OnOk result (CopiesNothingUnreachable (known_to self.copier)) }
+        ensures carried { OnOk result ((beginning_held self).referred ≡ false → CopiesNothingUnreachable (known_to self.copier)) }
         ensures ready { OnOk result (may_flip self ≡ true) }
         ensures asked { IfOk result (λ r. IsVouchedBy self.copier.standing (heap_held self) (heap_in r.0) ⊎ C.says_yes checker.now (flip_shown (heap_held self) (known_to self.copier))) }
+        ensures turned { IfOk result (λ r. IfAsked r.2 (C.says_yes checker.now (flip_shown (heap_held self) (known_to self.copier))) (IsVouchedBy self.copier.standing (heap_held self) (heap_in r.0))) }
+        ensures along { IfOk result (λ r. r.2 ≡ whole) }
         ensures certified { OnOk result (CertifiesFlip (heap_held self) (known_to self.copier)) }
         ensures never_refused { IfErr result (λ r. r.1 ≢ NoFlip.Refused) }
         ensures row { IfOk result (λ r. r.0.mutator.seat.table_id ≡ r.1.seat.table_id) }
         ensures heap { IfErr result (λ r. heap_held r.0 ≡ heap_held self) }
+        ensures moves { IfErr result (λ r. moves_held r.0 ≡ moves_held self) }
+        ensures since { IfErr result (λ r. beginning_held r.0 ≡ beginning_held self) }
         ensures known { IfErr result (λ r. known_to r.0.copier ≡ known_to self.copier) }
         ensures not_ready { IfErr result (λ r. r.1 ≡ NoFlip.NotReady → may_flip self ≡ false) }
         ensures same { IfErr result (λ r. r.0.copier.seat.table_id ≡ self.copier.seat.table_id) }
@@ -342,9 +376,10 @@ impl Held {
             Ok(roots) => roots,
             Err(why) => return Err((self, why)),
         };
-        if let Err(why) = self.certify(alloc, checker, roots.as_slice()) {
-            return Err((self, why));
-        }
+        let asked = match self.certify(alloc, checker, roots.as_slice(), whole) {
+            Ok(asked) => asked,
+            Err(why) => return Err((self, why)),
+        };
         let spare = match self.copier.take_spare(alloc) {
             Ok(spare) => spare,
             Err(NoMemory) => return Err((self, NoFlip::NoMemory)),
@@ -356,6 +391,8 @@ impl Held {
             log,
             roots: _,
             end: _,
+            moves,
+            starts,
         } = self;
         let Copier {
             cells,
@@ -379,8 +416,10 @@ impl Held {
         standing.flipped();
         let mut empty = due;
         empty.clear();
-        let former = Some(Former { cells, claims });
-        Ok(begin(space, roots, spare, former, log, empty, standing))
+        let (moves, row) = moves.after_flip(claims);
+        let former = Some(Former { cells, row, starts });
+        let (commander, copier) = begin(space, roots, moves, spare, former, log, empty, standing);
+        Ok((commander, copier, asked))
     }
 }
 
@@ -388,6 +427,7 @@ impl Held {
 fn begin(
     space: NextSpace,
     roots: Vec<u64>,
+    moves: Moves,
     spare: Spare,
     former: Option<Former>,
     log: Vec<(u32, u16)>,
@@ -395,14 +435,17 @@ fn begin(
     standing: Monitor,
 ) -> (Commander, Copier)
     requires sound { IsHeap (one_heap space roots.items) }
-    requires spare { length spare.claims.items ≡ space.size }
+    requires spare { length spare.claims.items ≡ half space.size }
     requires empty { (log.items ≡ []) × (due.items ≡ []) }
     requires along { ∥ Follows standing space.words (0 ∷ []) ∥₁ }
+    requires knows { ∥ Knows standing space.words (0 ∷ []) (opening_theirs (one_heap space roots.items) space.size 1) ∥₁ }
     ensures heap { heap_of result.0.mutator.seat.me.0.mine result.0.roots.items ≡ one_heap space roots.items }
     ensures fresh { result.1.seat.me.0.theirs ≡ opening_theirs (one_heap space roots.items) space.size 1 }
     ensures rests { result.0.mutator.seat.me.0.mine.logs ≡ false }
+    ensures begun { result.0.mutator.seat.me.0.mine.base ≡ begun_with (one_heap space roots.items) }
     ensures row { result.0.mutator.seat.table_id ≡ result.1.seat.table_id }
     ensures size { result.0.mutator.size ≡ space.size }
+    ensures moves { result.0.moves ≡ moves }
 {
     let Opened {
         one,
@@ -410,6 +453,7 @@ fn begin(
         seat: mut own,
         size,
         end,
+        starts,
     } = space.begin(&roots);
     let seat = one.shared.split_seat::<Roles>(&mut own);
     let Spare { claims, space } = spare;
@@ -421,9 +465,11 @@ fn begin(
                 logs: false,
                 log,
                 size,
+                starts,
             },
             roots,
             end,
+            moves,
         },
         Copier {
             cells: one,
@@ -459,6 +505,8 @@ pub(crate) fn open_ends(
     ensures row { IfOk result (λ r. r.0.mutator.seat.table_id ≡ r.1.seat.table_id) }
     ensures room { IfOk result (λ r. r.1.seat.me.0.theirs ≡ opening_theirs (heap_of r.0.mutator.seat.me.0.mine r.0.roots.items) size size) }
     ensures rests { IfOk result (λ r. r.0.mutator.seat.me.0.mine.logs ≡ false) }
+    ensures moves { IfOk result (λ r. r.0.moves ≡ no_moves) }
+    ensures begun { IfOk result (λ r. r.0.mutator.seat.me.0.mine.base ≡ begun_with (heap_of r.0.mutator.seat.me.0.mine r.0.roots.items)) }
 {
     let space = NextSpace::new(alloc, size)?;
     let roots = Vec::from_elem(alloc, 0u64, 32 + extra as usize)?;
@@ -467,6 +515,7 @@ pub(crate) fn open_ends(
     let (commander, mut copier) = begin(
         space,
         roots,
+        Moves::none(alloc),
         spare,
         None,
         Vec::new(alloc),

@@ -1,5 +1,5 @@
 //! Any command of gc_graph's machine, and what the commands on roots by their places stand on.
-ghost use Rattle.std.specs.Prelude.{◌≡◌, ℕ, List, true, ◌<◌, ◌≤◌, ◌+◌, ◌*◌, ◌^◌, length, slice_set, IfOk, OnErr, if◌then◌else◌};
+ghost use Rattle.std.specs.Prelude.{◌≡◌, ℕ, List, true, ◌<◌, ◌≤◌, ◌+◌, ◌*◌, ◌^◌, length, slice_set, Some, None, IfOk, IfErr, OnErr, if◌then◌else◌};
 ghost use Rattle.gc_graph.specs.Graph.{object_of, field_of, root};
 ghost use Rattle.gc_graph.specs.Machine.{get_field, view_of, same as same_in};
 ghost use Rattle.gc_graph.specs.Slots.{place as slot_place, roots_of};
@@ -11,15 +11,18 @@ ghost use Rattle.gc_heap.specs.Heap.{graph_in};
 ghost use Rattle.gc_model.specs.Steps.{WritesField};
 ghost use Rattle.gc_model.specs.Belonging.{RefersTo};
 ghost use Rattle.gc_concurrent.specs.Unreachable.{MayBeCopied};
-ghost use Rattle.gc_concurrent.specs.Holders.{cells_of, heap_in, logs_writes};
+ghost use Rattle.gc_concurrent.specs.Holders.{beginning_of, cells_of, heap_in, logs_writes, moves_in};
+ghost use Rattle.gc_concurrent.specs.Internal.LogRoom.{HasLogRoom};
+ghost use Rattle.gc_concurrent.specs.Bulk.{object_of_root};
+ghost use Rattle.gc_concurrent.specs.Internal.Shapes.{GetsField};
 ghost use Rattle.gc_concurrent.specs.Machines.{Does};
 
 use crate::commands::Commander;
 use gc_graph::{NoMemory, Op, Reply, Slot, View};
 use gc_words::{Header, Value, encode, target_of, value_in};
 
-// The root word of the same value as this field word of an object with this header.
-fn root_word(header: Header, field: u64) -> u64
+/// Returns the root word of the same value as this field word of an object with this header.
+pub(crate) fn root_word(header: Header, field: u64) -> u64
     requires { header.raw ≡ true → field < 2 ^ 63 }
     ensures value { value_of result ≡ field_value header field }
     ensures word { (words : List ℕ) → IsFieldWord words header field → IsRootWord words result }
@@ -48,6 +51,8 @@ impl Commander {
         ensures done { result ≡ Reply.Done }
         ensures heap { heap_in self.new ≡ record (heap_in self.old) { roots = slice_set self.old.roots.items place word } }
         ensures cells { cells_of self.new ≡ cells_of self.old }
+        ensures moves { moves_in self.new ≡ moves_in self.old }
+        ensures begun { beginning_of self.new ≡ beginning_of self.old }
     {
         self.roots[place] = word;
         Reply::Done
@@ -60,6 +65,7 @@ impl Commander {
         ensures heap { heap_in self.new ≡ heap_in self.old }
         ensures base { self.new.mutator.seat.me.0.mine.base ≡ self.old.mutator.seat.me.0.mine.base }
         ensures cells { cells_of self.new ≡ cells_of self.old }
+        ensures moves { moves_in self.new ≡ moves_in self.old }
     {
         match value_in(word) {
             Value::Nil => View::Nil,
@@ -91,6 +97,36 @@ impl Commander {
         }
     }
 
+    /// Reads field `i` of the object that root `s` refers to, as a word that a root can hold. If it is not there, returns the reply that says so.
+    #[inline(always)]
+    pub(crate) fn fetched(&mut self, s: usize, i: u16) -> Result<u64, Reply>
+        requires giver { s < length self.old.roots.items }
+        ensures value { IfOk result (λ word. field_of (object_of_root (heap_in self.old) s) i ≡ Some (value_of word)) }
+        ensures word { IfOk result (λ word. IsRootWord self.old.mutator.seat.me.0.mine.space.words word) }
+        ensures allowed { IfOk result (λ word. RefersTo (MayBeCopied self.old.mutator.seat.me.0.mine.base) (value_of word)) }
+        ensures none { IfErr result (λ reply. field_of (object_of_root (heap_in self.old) s) i ≡ None) }
+        // What a `Get` into root `d` would do.
+        ensures got { IfOk result (λ word. (d : ℕ) → GetsField (heap_in self.old) d s i (Reply.Saw (view_of (graph_in (heap_in self.old)).objects (value_of word))) (record (heap_in self.old) { roots = slice_set self.old.roots.items d word })) }
+        ensures missed { IfErr result (λ reply. (d : ℕ) → GetsField (heap_in self.old) d s i reply (heap_in self.old)) }
+        ensures heap { heap_in self.new ≡ heap_in self.old }
+        ensures base { self.new.mutator.seat.me.0.mine.base ≡ self.old.mutator.seat.me.0.mine.base }
+        ensures room { (n : ℕ) → HasLogRoom n self.old → HasLogRoom n self.new }
+        ensures logs { logs_writes self.new ≡ logs_writes self.old }
+        ensures cells { cells_of self.new ≡ cells_of self.old }
+        ensures moves { moves_in self.new ≡ moves_in self.old }
+    {
+        let target = self.roots[s];
+        let Some(at) = target_of(target) else {
+            return Err(Reply::NoObject);
+        };
+        let header = self.mutator.header(at);
+        if i >= header.len() {
+            return Err(Reply::NoField);
+        }
+        let field = self.mutator.field(at, i);
+        Ok(root_word(header, field))
+    }
+
     // Sets root `d` to field `i` of the object that root `s` refers to.
     pub(crate) fn get_at(&mut self, d: usize, s: usize, i: u16) -> Reply
         requires taker { d < length self.old.roots.items }
@@ -99,19 +135,15 @@ impl Commander {
             (result, graph_in (heap_in self.new)) ≡ get_field (graph_in (heap_in self.old)) d object (field_of object i) }
         ensures space { (heap_in self.new).space ≡ (heap_in self.old).space }
         ensures cells { cells_of self.new ≡ cells_of self.old }
+        ensures moves { moves_in self.new ≡ moves_in self.old }
+        ensures begun { beginning_of self.new ≡ beginning_of self.old }
     {
-        let target = self.roots[s];
-        let Some(at) = target_of(target) else {
-            return Reply::NoObject;
+        let word = match self.fetched(s, i) {
+            Ok(word) => word,
+            Err(reply) => return reply,
         };
-        let header = self.mutator.header(at);
-        if i >= header.len() {
-            return Reply::NoField;
-        }
-        let field = self.mutator.field(at, i);
-        let word = root_word(header, field);
         let seen = self.view(word);
-        self.roots[d] = word;
+        let _done = self.set_at(d, word);
         Reply::Saw(seen)
     }
 
@@ -122,6 +154,8 @@ impl Commander {
         ensures memory { OnErr result (WritesField op.now) }
         ensures logs { OnErr result (logs_writes self.old ≡ true) }
         ensures cells { cells_of self.new ≡ cells_of self.old }
+        ensures moves { moves_in self.new ≡ moves_in self.old }
+        ensures begun { beginning_of self.new ≡ beginning_of self.old }
     {
         match *op {
             Op::New { d, kind, len } => Ok(self.new_root(place_of(d), kind, len)),

@@ -1,12 +1,13 @@
 //! The mutator's thread: what gc_words' `Space` offers, over the words of the table.
-ghost use Rattle.std.specs.Prelude.{◌≡◌, ◌+◌, ◌-◌, ◌*◌, ◌^◌, ◌<◌, ◌≤◌, true, false, [], ◌∷◌, length};
+ghost use Rattle.std.specs.Prelude.{◌≡◌, ◌+◌, ◌-◌, ◌*◌, ◌^◌, ◌/◌, ◌<◌, ◌≤◌, true, false, [], ◌∷◌, length};
+ghost use Rattle.gc_concurrent.specs.Internal.Starts.{TellsStarts};
 ghost use Rattle.std.specs.Arc.{arc_value};
 
 use crate::cells::{Cells, CellsEnd};
 use crate::checking::loaded;
-use crate::plays::{Got, Linked, Made, Put};
+use crate::plays::{Got, Linked, Made, Put, Referred};
 use gc_graph::NoMemory;
-use gc_words::{Addr, Header, field_index};
+use gc_words::{Addr, Header, field_index, is_marked, mark};
 use std::alloc::Global;
 use std::sync::Arc;
 
@@ -19,12 +20,16 @@ pub struct Mutator {
     pub(crate) logs: bool,
     pub(crate) log: Vec<(u32, u16)>,
     pub size: u32,
+    // A bit for each word of the space: whether an object starts there.
+    pub(crate) starts: Vec<u64>,
     ghost row: { ((arc_value cells).shared.table_id ≡ seat.table_id) × (seat.table_id.words ≡ size) × ((arc_value cells).shared.key.size ≡ size) },
     ghost writes: { seat.me.0.writes ≡ true },
     ghost hands: { seat.me.1 ≡ [] },
     ghost logging: { seat.me.0.mine.logs ≡ logs },
     ghost logged: { seat.me.0.mine.log ≡ log.items },
     ghost sized: { seat.me.0.mine.space.size ≡ size },
+    ghost wide: { size / 64 < length starts.items },
+    ghost marked: { TellsStarts starts.items seat.me.0.mine.space.words },
 }
 
 ghost use Rattle.gc_words.specs.Layout.{link_place};
@@ -42,9 +47,10 @@ impl Mutator {
     ghost use Rattle.gc_words.specs.Space.{IsSpace, CanPlace, end_of, with_object, with_field_at, with_link};
     ghost use Rattle.gc_words.specs.Spelling.{link_at};
     ghost use Rattle.std.specs.Prelude.{IfOk};
+    ghost use Rattle.std.specs.Vec.{vec_len, vec_capacity};
     ghost use Rattle.gc_graph.specs.Machine.{object_words};
     ghost use Rattle.gc_words.specs.Word.{field_value};
-    ghost use Rattle.gc_words.specs.Closed.{IsFieldWord};
+    ghost use Rattle.gc_words.specs.Closed.{IsClosed, IsFieldWord};
     ghost use Rattle.gc_model.specs.Belonging.{RefersTo};
     ghost use Rattle.gc_concurrent.specs.Ends.{Mine};
     ghost use Rattle.gc_concurrent.specs.Unreachable.{MayBeCopied};
@@ -58,6 +64,7 @@ impl Mutator {
         ensures row { self.new.seat.table_id ≡ self.old.seat.table_id }
         ensures size { self.new.size ≡ self.old.size }
         ensures logging { self.new.logs ≡ self.old.logs }
+        ensures log { self.new.log ≡ self.old.log }
     {
         let cells = &*self.cells;
         let word = cells.shared.load::<Got>(&mut self.seat, at.0 as usize);
@@ -72,31 +79,46 @@ impl Mutator {
         ensures same { self.new.seat.me ≡ self.old.seat.me }
         ensures row { self.new.seat.table_id ≡ self.old.seat.table_id }
         ensures size { self.new.size ≡ self.old.size }
+        ensures logging { self.new.logs ≡ self.old.logs }
+        ensures log { self.new.log ≡ self.old.log }
     {
         let cells = &*self.cells;
         cells.shared.load::<Got>(&mut self.seat, field_index(at, i))
     }
 
-    /// Writes field `i` of the object that starts here, and logs it, once the collector has begun to copy.
-    pub(crate) fn set_field(&mut self, at: Addr, i: u16, word: u64) -> Result<(), NoMemory>
+    /// Makes room in the log for `more` entries, once the collector has begun to copy.
+    pub(crate) fn reserve(&mut self, more: usize) -> Result<(), NoMemory>
+        ensures room { OnOk result (self.new.logs ≡ true → vec_len self.new.log + more ≤ vec_capacity self.new.log) }
+        ensures logs { OnErr result (self.old.seat.me.0.mine.logs ≡ true) }
+        ensures same { self.new.seat.me ≡ self.old.seat.me }
+        ensures logging { self.new.logs ≡ self.old.logs }
+        ensures row { self.new.seat.table_id ≡ self.old.seat.table_id }
+        ensures size { self.new.size ≡ self.old.size }
+    {
+        if self.logs {
+            self.log.reserve(more)?;
+        }
+        Ok(())
+    }
+
+    /// Writes field `i` of the object that starts here, and logs it, once the collector has begun to copy. `reserve` has made room for the entry.
+    pub(crate) fn set_field(&mut self, at: Addr, i: u16, word: u64)
+        requires room { self.old.logs ≡ true → vec_len self.old.log < vec_capacity self.old.log }
         requires shaped { IsSpace self.old.seat.me.0.mine.space }
         requires there { IsSome (field_at self.old.seat.me.0.mine.space.words at.0 i) }
         requires fits { (b : Block) → block_at self.old.seat.me.0.mine.space.words at.0 ≡ Some b → IsFieldWord self.old.seat.me.0.mine.space.words b.header word }
         requires allowed { (b : Block) → block_at self.old.seat.me.0.mine.space.words at.0 ≡ Some b → RefersTo (MayBeCopied self.old.seat.me.0.mine.base) (field_value b.header word) }
-        ensures ok { OnOk result (self.new.seat.me.0.mine.space ≡ with_field_at self.old.seat.me.0.mine.space at.0 i word) }
+        ensures words { self.new.seat.me.0.mine.space ≡ with_field_at self.old.seat.me.0.mine.space at.0 i word }
         ensures shaped { IsSpace self.new.seat.me.0.mine.space }
         ensures end { end_of self.new.seat.me.0.mine.space ≡ end_of self.old.seat.me.0.mine.space }
         ensures base { self.new.seat.me.0.mine.base ≡ self.old.seat.me.0.mine.base }
         ensures copies { self.new.seat.me.0.copies ≡ self.old.seat.me.0.copies }
         ensures logging { self.new.logs ≡ self.old.logs }
-        ensures err { OnErr result (self.new.seat.me ≡ self.old.seat.me) }
-        ensures logs { OnErr result (self.old.seat.me.0.mine.logs ≡ true) }
+        ensures room { vec_capacity self.new.log ≡ vec_capacity self.old.log }
+        ensures entries { vec_len self.new.log ≤ vec_len self.old.log + 1 }
         ensures row { self.new.seat.table_id ≡ self.old.seat.table_id }
         ensures size { self.new.size ≡ self.old.size }
     {
-        if self.logs {
-            self.log.reserve(1)?;
-        }
         let cells = &*self.cells;
         cells
             .shared
@@ -104,13 +126,13 @@ impl Mutator {
         if self.logs {
             self.log.push_reserved((at.0, i));
         }
-        Ok(())
     }
 
     /// Places an object at the end: its header is all that is written, as the free words are 0. `end` is the end.
     pub(crate) fn place(&mut self, end: u32, header: Header) -> Addr
         requires end { end_of self.old.seat.me.0.mine.space ≡ end }
         requires room { CanPlace self.old.seat.me.0.mine.space header }
+        ensures closed { IsClosed self.old.seat.me.0.mine.space.words [] }
         ensures at { result.0 ≡ end_of self.old.seat.me.0.mine.space }
         ensures words { self.new.seat.me.0.mine.space ≡ with_object self.old.seat.me.0.mine.space header }
         ensures object { block_at self.new.seat.me.0.mine.space.words end ≡ Some (fresh_block header) }
@@ -119,6 +141,7 @@ impl Mutator {
         ensures base { self.new.seat.me.0.mine.base ≡ self.old.seat.me.0.mine.base }
         ensures copies { self.new.seat.me.0.copies ≡ self.old.seat.me.0.copies }
         ensures logging { self.new.logs ≡ self.old.logs }
+        ensures log { self.new.log ≡ self.old.log }
         ensures row { self.new.seat.table_id ≡ self.old.seat.table_id }
         ensures size { self.new.size ≡ self.old.size }
     {
@@ -126,7 +149,32 @@ impl Mutator {
         cells
             .shared
             .store::<Made>(&mut self.seat, end as usize, header.word());
+        mark(self.starts.as_mut_slice(), end as usize);
         Addr(end)
+    }
+
+    /// Returns whether an object starts here. Reads one word of the row of starts.
+    pub(crate) fn starts_at(&self, at: u32) -> bool
+        requires { at < self.now.size }
+        ensures { result ≡ is_start self.now.seat.me.0.mine.space.words at }
+    {
+        is_marked(self.starts.as_slice(), at as usize)
+    }
+
+    /// Takes note that a reference is made to the object that starts here, from its address alone.
+    pub(crate) fn refer(&mut self, at: Addr)
+        requires shaped { IsSpace self.old.seat.me.0.mine.space }
+        requires start { IsTrue (is_start self.old.seat.me.0.mine.space.words at.0) }
+        ensures base { self.new.seat.me.0.mine.base ≡ record self.old.seat.me.0.mine.base { referred = true } }
+        ensures space { self.new.seat.me.0.mine.space ≡ self.old.seat.me.0.mine.space }
+        ensures copies { self.new.seat.me.0.copies ≡ self.old.seat.me.0.copies }
+        ensures row { self.new.seat.table_id ≡ self.old.seat.table_id }
+        ensures size { self.new.size ≡ self.old.size }
+        ensures logging { self.new.logs ≡ self.old.logs }
+        ensures log { self.new.log ≡ self.old.log }
+    {
+        let cells = &*self.cells;
+        cells.shared.load::<Referred>(&mut self.seat, at.0 as usize);
     }
 
     /// Reads the link word of the object that starts here.

@@ -1,14 +1,15 @@
 //! The space of the next heap, in cells of its own. Until a flip the collector is its mutator: it places replicas and writes their fields by the steps
 //! with which a mutator makes and writes objects.
-ghost use Rattle.std.specs.Prelude.{◌≡◌, ℕ, ◌<◌, ◌≤◌, [], ◌↔◌, length, Some, IfOk, IsSome, IsTrue};
+ghost use Rattle.std.specs.Prelude.{◌≡◌, ℕ, ◌+◌, ◌/◌, ◌<◌, ◌≤◌, [], ◌↔◌, length, Some, IfOk, IsSome, IsTrue};
 ghost use Rattle.std.specs.Arc.{arc_value};
 ghost use Rattle.gc_words.specs.Image.{Block, block_at, field_at, fresh_block, header_at, is_start};
 ghost use Rattle.gc_words.specs.Spelling.{link_at};
-ghost use Rattle.gc_words.specs.Closed.{IsFieldWord};
+ghost use Rattle.gc_words.specs.Closed.{IsClosed, IsFieldWord};
 ghost use Rattle.gc_words.specs.Space.{IsSpace, HasRoomFor, empty_space, end_of, with_field_at, with_link, with_object};
 ghost use Rattle.gc_heap.specs.Heap.{IsHeap};
 ghost use Rattle.gc_concurrent.specs.Ends.{one_heap, opening_view};
 ghost use Rattle.gc_concurrent.specs.Internal.Rule.{Loose};
+ghost use Rattle.gc_concurrent.specs.Internal.Starts.{TellsStarts};
 
 use crate::cells::{Cells, CellsEnd, CellsKey};
 use crate::mutator::Mutator;
@@ -32,7 +33,7 @@ impl Model for NextSpace {
     ghost use Rattle.std.specs.Prelude.{◌≡◌, true, false, [], length};
     ghost use Rattle.std.specs.Arc.{arc_value};
     ghost use Rattle.gc_words.specs.Space.{SpaceWords, IsSpace, empty_space};
-    ghost use Rattle.gc_concurrent.specs.Ends.{one_heap};
+    ghost use Rattle.gc_concurrent.specs.Ends.{begun_with, one_heap};
 
     ghost Value = { SpaceWords };
 
@@ -42,7 +43,7 @@ impl Model for NextSpace {
         × (n.mutator.seat.me.0.copies ≡ true)
         × (n.mutator.logs ≡ false)
         × (length n.mutator.seat.me.0.mine.space.words ≡ n.end)
-        × (n.mutator.seat.me.0.mine.base ≡ one_heap (empty_space n.mutator.size) [])
+        × (n.mutator.seat.me.0.mine.base ≡ begun_with (one_heap (empty_space n.mutator.size) []))
         × ((arc_value n.other).shared.table_id ≡ n.mutator.seat.table_id)
         × ((arc_value n.other).shared.key.size ≡ n.mutator.size) };
 }
@@ -55,8 +56,11 @@ pub struct Opened {
     pub(crate) seat: CellsEnd,
     pub(crate) size: u32,
     pub(crate) end: u32,
+    pub(crate) starts: Vec<u64>,
     ghost row: { ((arc_value one).shared.table_id ≡ seat.table_id) × ((arc_value two).shared.table_id ≡ seat.table_id) × (seat.table_id.words ≡ size) },
     ghost keys: { ((arc_value one).shared.key.size ≡ size) × ((arc_value two).shared.key.size ≡ size) },
+    ghost wide: { size / 64 < length starts.items },
+    ghost marked: { TellsStarts starts.items seat.me.0.mine.space.words },
 }
 
 impl NextSpace {
@@ -70,6 +74,7 @@ impl NextSpace {
         let (table, seat) = Cells::of_words(alloc, words.as_slice(), &CellsKey { size })?;
         let cells = Arc::new(alloc, table)?;
         let other = Arc::try_clone(&cells)?;
+        let starts = Vec::from_elem(alloc, 0u64, size as usize / 64 + 1)?;
         Ok(NextSpace {
             mutator: Mutator {
                 cells,
@@ -77,6 +82,7 @@ impl NextSpace {
                 logs: false,
                 log: Vec::new(alloc),
                 size,
+                starts,
             },
             other,
             end: 1,
@@ -127,6 +133,7 @@ impl NextSpace {
     /// Places an object at the end, with link 0 and all field words 0, and returns its address.
     pub(crate) fn place(&mut self, header: Header) -> Addr
         requires { HasRoomFor self.old header.len }
+        ensures closed { IsClosed self.old.words [] }
         ensures at { result.0 ≡ end_of self.old }
         ensures words { self.new ≡ with_object self.old header }
         ensures object { block_at self.new.words (end_of self.old) ≡ Some (fresh_block header) }
@@ -162,10 +169,7 @@ impl NextSpace {
         ensures words { self.new ≡ with_field_at self.old at.0 i word }
         ensures shaped { IsSpace self.new }
     {
-        match self.mutator.set_field(at, i, word) {
-            Ok(()) => {}
-            Err(NoMemory) => unreachable!(),
-        }
+        self.mutator.set_field(at, i, word);
     }
 
     /// Loads the words up to the end, one by one. Allocates once.
@@ -195,6 +199,7 @@ impl NextSpace {
             logs: _,
             log: _,
             size,
+            starts,
         } = mutator;
         cells
             .shared
@@ -205,6 +210,7 @@ impl NextSpace {
             seat,
             size,
             end,
+            starts,
         }
     }
 }

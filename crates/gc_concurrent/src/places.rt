@@ -2,8 +2,9 @@
 ghost use Rattle.std.specs.Prelude.{◌≡◌, true, ◌<◌, length, IfOk, OnErr};
 ghost use Rattle.gc_graph.specs.declared.command.Op.{Op};
 ghost use Rattle.gc_heap.specs.Places.{root_at};
-ghost use Rattle.gc_concurrent.specs.Holders.{cells_of, heap_in, logs_writes};
-ghost use Rattle.gc_concurrent.specs.Machines.{Does};
+ghost use Rattle.gc_concurrent.specs.Holders.{beginning_of, cells_of, heap_in, logs_writes, moves_in};
+ghost use Rattle.gc_graph.specs.Graph.{Nil, Num};
+ghost use Rattle.gc_concurrent.specs.Machines.{Does, MakesPair, PutsValue};
 
 use crate::commands::Commander;
 use gc_graph::{NoMemory, Number, Reply};
@@ -23,6 +24,8 @@ impl Commander {
         requires { d < length self.old.roots.items }
         ensures step { Does (heap_in self.old) (Op.Num (root_at d) n) result (heap_in self.new) }
         ensures cells { cells_of self.new ≡ cells_of self.old }
+        ensures moves { moves_in self.new ≡ moves_in self.old }
+        ensures begun { beginning_of self.new ≡ beginning_of self.old }
         ensures roots { length self.new.roots.items ≡ length self.old.roots.items }
     {
         let word = encode(Value::Num(n));
@@ -34,6 +37,8 @@ impl Commander {
         requires { d < length self.old.roots.items }
         ensures step { Does (heap_in self.old) (Op.Nil (root_at d)) result (heap_in self.new) }
         ensures cells { cells_of self.new ≡ cells_of self.old }
+        ensures moves { moves_in self.new ≡ moves_in self.old }
+        ensures begun { beginning_of self.new ≡ beginning_of self.old }
         ensures roots { length self.new.roots.items ≡ length self.old.roots.items }
     {
         self.set_at(d as usize, encode(Value::Nil))
@@ -45,6 +50,8 @@ impl Commander {
         requires giver { s < length self.old.roots.items }
         ensures step { Does (heap_in self.old) (Op.Move (root_at d) (root_at s)) result (heap_in self.new) }
         ensures cells { cells_of self.new ≡ cells_of self.old }
+        ensures moves { moves_in self.new ≡ moves_in self.old }
+        ensures begun { beginning_of self.new ≡ beginning_of self.old }
         ensures roots { length self.new.roots.items ≡ length self.old.roots.items }
     {
         let word = self.roots[s as usize];
@@ -56,6 +63,8 @@ impl Commander {
         requires { d < length self.old.roots.items }
         ensures step { Does (heap_in self.old) (Op.New (root_at d) kind len) result (heap_in self.new) }
         ensures cells { cells_of self.new ≡ cells_of self.old }
+        ensures moves { moves_in self.new ≡ moves_in self.old }
+        ensures begun { beginning_of self.new ≡ beginning_of self.old }
         ensures roots { length self.new.roots.items ≡ length self.old.roots.items }
     {
         self.make(d as usize, false, kind, len)
@@ -66,6 +75,8 @@ impl Commander {
         requires { d < length self.old.roots.items }
         ensures step { Does (heap_in self.old) (Op.NewRaw (root_at d) kind len) result (heap_in self.new) }
         ensures cells { cells_of self.new ≡ cells_of self.old }
+        ensures moves { moves_in self.new ≡ moves_in self.old }
+        ensures begun { beginning_of self.new ≡ beginning_of self.old }
         ensures roots { length self.new.roots.items ≡ length self.old.roots.items }
     {
         self.make(d as usize, true, kind, len)
@@ -76,6 +87,8 @@ impl Commander {
         requires { s < length self.old.roots.items }
         ensures step { Does (heap_in self.old) (Op.Look (root_at s)) result (heap_in self.new) }
         ensures cells { cells_of self.new ≡ cells_of self.old }
+        ensures moves { moves_in self.new ≡ moves_in self.old }
+        ensures begun { beginning_of self.new ≡ beginning_of self.old }
         ensures roots { length self.new.roots.items ≡ length self.old.roots.items }
     {
         let word = self.roots[s as usize];
@@ -97,6 +110,8 @@ impl Commander {
         requires giver { s < length self.old.roots.items }
         ensures step { Does (heap_in self.old) (Op.Get (root_at d) (root_at s) i) result (heap_in self.new) }
         ensures cells { cells_of self.new ≡ cells_of self.old }
+        ensures moves { moves_in self.new ≡ moves_in self.old }
+        ensures begun { beginning_of self.new ≡ beginning_of self.old }
         ensures roots { length self.new.roots.items ≡ length self.old.roots.items }
     {
         self.get_at(d as usize, s as usize, i)
@@ -110,8 +125,68 @@ impl Commander {
         ensures err { OnErr result (heap_in self.new ≡ heap_in self.old) }
         ensures logs { OnErr result (logs_writes self.old ≡ true) }
         ensures cells { cells_of self.new ≡ cells_of self.old }
+        ensures moves { moves_in self.new ≡ moves_in self.old }
+        ensures begun { beginning_of self.new ≡ beginning_of self.old }
         ensures roots { length self.new.roots.items ≡ length self.old.roots.items }
     {
-        self.put(s as usize, i, t as usize)
+        self.reserve(1)?;
+        Ok(self.put(s as usize, i, t as usize))
+    }
+
+    /// Writes a number to field `i` of the object that root `s` refers to: `Done`, `NoObject` or `NoField`. No root changes.
+    pub fn put_number_root(&mut self, s: u32, i: u16, n: Number) -> Result<Reply, NoMemory>
+        requires { s < length self.old.roots.items }
+        ensures step { IfOk result (λ reply. PutsValue s i (Num n) (heap_in self.old) reply (heap_in self.new)) }
+        ensures err { OnErr result (heap_in self.new ≡ heap_in self.old) }
+        ensures logs { OnErr result (logs_writes self.old ≡ true) }
+        ensures cells { cells_of self.new ≡ cells_of self.old }
+        ensures moves { moves_in self.new ≡ moves_in self.old }
+        ensures begun { beginning_of self.new ≡ beginning_of self.old }
+        ensures roots { length self.new.roots.items ≡ length self.old.roots.items }
+    {
+        let number = encode(Value::Num(n));
+        self.reserve(1)?;
+        Ok(self.write(s as usize, i, number))
+    }
+
+    /// Writes nil to field `i` of the object that root `s` refers to: `Done`, `NoObject`, `NoField`, or `NoNumber` if it is raw. No root changes.
+    pub fn put_nil_root(&mut self, s: u32, i: u16) -> Result<Reply, NoMemory>
+        requires { s < length self.old.roots.items }
+        ensures step { IfOk result (λ reply. PutsValue s i Nil (heap_in self.old) reply (heap_in self.new)) }
+        ensures err { OnErr result (heap_in self.new ≡ heap_in self.old) }
+        ensures logs { OnErr result (logs_writes self.old ≡ true) }
+        ensures cells { cells_of self.new ≡ cells_of self.old }
+        ensures moves { moves_in self.new ≡ moves_in self.old }
+        ensures begun { beginning_of self.new ≡ beginning_of self.old }
+        ensures roots { length self.new.roots.items ≡ length self.old.roots.items }
+    {
+        let word = encode(Value::Nil);
+        self.reserve(1)?;
+        Ok(self.write(s as usize, i, word))
+    }
+
+    /// Makes a new object with two fields, to which root `d` then refers. The fields then take the values of roots `s` and `t`: `Made` or `Full`. A field that is
+    /// filled from root `d` refers to the object itself.
+    pub fn new_pair_root(&mut self, d: u32, kind: u8, s: u32, t: u32) -> Result<Reply, NoMemory>
+        requires object { d < length self.old.roots.items }
+        requires first { s < length self.old.roots.items }
+        requires second { t < length self.old.roots.items }
+        ensures step { IfOk result (λ reply. MakesPair d kind s t (heap_in self.old) reply (heap_in self.new)) }
+        ensures err { OnErr result (heap_in self.new ≡ heap_in self.old) }
+        ensures logs { OnErr result (logs_writes self.old ≡ true) }
+        ensures cells { cells_of self.new ≡ cells_of self.old }
+        ensures moves { moves_in self.new ≡ moves_in self.old }
+        ensures begun { beginning_of self.new ≡ beginning_of self.old }
+        ensures roots { length self.new.roots.items ≡ length self.old.roots.items }
+    {
+        self.reserve(2)?;
+        match self.make(d as usize, false, kind, 2) {
+            Reply::Made => {
+                self.put(d as usize, 0, s as usize);
+                self.put(d as usize, 1, t as usize);
+                Ok(Reply::Made)
+            }
+            full => Ok(full),
+        }
     }
 }

@@ -36,6 +36,14 @@ impl Play<Vec<u64>, CellsView> for Linked {
     ghost then = { tells_link };
 }
 
+pub(crate) struct Referred;
+
+impl Play<Vec<u64>, CellsView> for Referred {
+    ghost use Rattle.gc_concurrent.specs.Internal.Rule.{tells_refer};
+
+    ghost then = { tells_refer };
+}
+
 pub(crate) struct Renewed;
 
 impl Play<Vec<u64>, CellsView> for Renewed {

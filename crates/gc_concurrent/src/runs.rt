@@ -8,7 +8,7 @@ ghost use Rattle.gc_graph.specs.declared.command.Op.{Op};
 ghost use Rattle.gc_graph.specs.declared.reply.Reply.{Reply};
 ghost use Rattle.gc_concurrent.specs.Holders.{heap_in};
 ghost use Rattle.gc_concurrent.specs.Heaps.{GoesOnIn};
-ghost use Rattle.gc_concurrent.specs.Machines.{Does};
+ghost use Rattle.gc_concurrent.specs.Machines.{Does, DoesAll};
 ghost use Rattle.gc_concurrent.specs.Law.{Shows, AreReplies, AreAllReplies, HasNoFull, EndsAt, ShowsAfter, Serves, Ran, StandsAfter};
 
 use crate::handshake::Runner;
@@ -96,6 +96,8 @@ pub fn what_is_shown_stays()
 pub fn runs_reply_alike()
     ensures replies { (heap new : HeapWords) (ops : List Op) (told : List Reply) → IsHeap heap → Ran heap ops told new → AreAllReplies heap ops told }
     ensures heap { (heap new : HeapWords) (ops : List Op) (told : List Reply) → IsHeap heap → IsHeap new → Ran heap ops told new → ShowsAfter heap ops (length ops) new }
+    // A call that performs several commands is such a run.
+    ensures many { (heap new : HeapWords) (ops : List Op) (told : List Reply) → IsHeap heap → HasNoFull told → DoesAll heap ops told new → Ran heap ops told new }
 {}
 
 // Performs a command, and waits for the collector while there is no room. If memory runs out, the mutator shows what it showed.

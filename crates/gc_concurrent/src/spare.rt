@@ -1,14 +1,16 @@
 //! Memory that a flip takes and leaves, so that it allocates and frees no large block while the mutator waits.
 ghost use Rattle.std.specs.Prelude.{◌≡◌, ◌∷◌, [], IfOk, length, replicate};
 ghost use Rattle.std.specs.Arc.{arc_value};
+ghost use Rattle.gc_concurrent.specs.Moves.{half};
 
 use crate::cells::Cells;
+use crate::moves::half;
 use crate::next::NextSpace;
 use gc_graph::NoMemory;
 use std::alloc::Global;
 use std::sync::Arc;
 
-/// The memory of the collection that a flip begins: a claim for each word of its heap, and a new space of one word. Nothing is copied.
+/// The memory of the collection that a flip begins: a claim for each two words of its heap, and a new space of one word. Nothing is copied.
 #[derive(Drop)]
 pub struct Spare {
     pub(crate) claims: Vec<u32>,
@@ -17,19 +19,20 @@ pub struct Spare {
     ghost small: { (space.size ≡ 1) × (space.words ≡ 0 ∷ []) },
 }
 
-/// The memory of the heap before the last flip. No end knows its cells any more.
+/// Memory that a flip has put aside: the cells of the heap before it, which no end knows any more, and the row of moves of the flip before it.
 #[derive(Drop)]
 pub struct Former {
     pub(crate) cells: Arc<Cells, Global>,
-    pub(crate) claims: Vec<u32>,
+    pub(crate) row: Vec<u32>,
+    pub(crate) starts: Vec<u64>,
 }
 
 impl Spare {
     /// Makes the memory of a collection of a heap of `size` words.
     pub(crate) fn new(alloc: Global, size: u32) -> Result<Spare, NoMemory>
-        ensures { IfOk result (λ spare. length spare.claims.items ≡ size) }
+        ensures { IfOk result (λ spare. length spare.claims.items ≡ half size) }
     {
-        let claims = Vec::from_elem(alloc, 0u32, size as usize)?;
+        let claims = Vec::from_elem(alloc, 0u32, half(size))?;
         let space = NextSpace::new(alloc, 1)?;
         Ok(Spare { claims, space })
     }

@@ -6,7 +6,8 @@ use Rattle.gc_graph.specs.Graph.{Value, Nil, Num, Ref, Object}
 use Rattle.gc_words.specs.Space.{SpaceWords}
 use Rattle.gc_heap.specs.Heap.{HeapWords}
 use Rattle.gc_model.specs.State.{Replica}
-use Rattle.gc_concurrent.specs.Ends.{Mine, Theirs, Known}
+use Rattle.gc_concurrent.specs.Ends.{Beginning, Known, Mine, Theirs}
+use Rattle.gc_concurrent.specs.Moves.{MovesWords, Situation}
 
 abbrev pub split : Value → ℕ ⊎ (ℕ ⊎ ℕ)
 split Nil = inl 0
@@ -41,8 +42,17 @@ entries_coded = coded_list (coded× coded_ℕ coded_ℕ)
 abbrev pub heap_coded : Coded HeapWords
 heap_coded = code_by (SpaceWords × (List ℕ × ℕ)) (coded× space_coded (coded× (coded_list coded_ℕ) coded_ℕ)) (λ h. (h.space, (h.roots, h.mutators))) (λ p. record { space = p.0; roots = p.1.0; mutators = p.1.1 }) (λ _. refl)
 
+abbrev pub moves_coded : Coded MovesWords
+moves_coded = code_by (List ℕ × ℕ) (coded× (coded_list coded_ℕ) coded_ℕ) (λ m. (m.row, m.flips)) (λ p. record { row = p.0; flips = p.1 }) (λ _. refl)
+
+abbrev pub beginning_coded : Coded Beginning
+beginning_coded = code_by (HeapWords × Bool) (coded× heap_coded coded_bool) (λ b. (b.heap, b.referred)) (λ p. record { heap = p.0; referred = p.1 }) (λ _. refl)
+
+abbrev pub situation_coded : Coded Situation
+situation_coded = code_by (HeapWords × (MovesWords × Beginning)) (coded× heap_coded (coded× moves_coded beginning_coded)) (λ s. (s.heap, (s.moves, s.begun))) (λ p. record { heap = p.0; moves = p.1.0; begun = p.1.1 }) (λ _. refl)
+
 abbrev pub mine_coded : Coded Mine
-mine_coded = code_by (SpaceWords × (Bool × (List (ℕ × ℕ) × HeapWords))) (coded× space_coded (coded× coded_bool (coded× entries_coded heap_coded)))
+mine_coded = code_by (SpaceWords × (Bool × (List (ℕ × ℕ) × Beginning))) (coded× space_coded (coded× coded_bool (coded× entries_coded beginning_coded)))
     (λ m. (m.space, (m.logs, (m.log, m.base)))) (λ p. record { space = p.0; logs = p.1.0; log = p.1.1.0; base = p.1.1.1 }) (λ _. refl)
 
 abbrev pub theirs_coded : Coded Theirs

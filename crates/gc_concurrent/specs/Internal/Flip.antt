@@ -1,5 +1,5 @@
 -- What holds where both ends are at hand and nothing is due.
-use Rattle.std.specs.Prelude.{[], ◌≡◌, ◌<◌, ◌^◌, ℕ, true, List, map}
+use Rattle.std.specs.Prelude.{[], ◌≡◌, ◌<◌, ◌^◌, ℕ, true, false, List, map}
 use Rattle.gc_graph.specs.Graph.{Graph}
 use Rattle.gc_graph.specs.Correspond.{Corresponding}
 use Rattle.gc_words.specs.Word.{value_of, word_of}
@@ -50,7 +50,7 @@ linked_in words = map linked (replicas_in words)
 
 -- The image of the space, and the new space with the moved roots, pass the check. A space that holds the replicas is then a heap with the moved
 -- roots, and its graph corresponds to the mutator's: the mutator may go on in it. It is the new space, with its links. No replica is that of an
--- object that was unreachable at first.
+-- object that was unreachable at first, unless a reference was made from an address alone.
 pub record Flips (roots : List ℕ) (m : Mine) (t : Theirs) : Type 0 where
   pub certified : (links : ℕ → ℕ) → Certified (image_with m.space roots) (linked_image links t.size (new_graph (its t) (map value_of roots))) (pairs_of (its t))
   pub corresponding : Corresponding (pairs_of (its t)) (graph_in (heap_of m roots)) (new_graph (its t) (map value_of roots))
@@ -58,7 +58,7 @@ pub record Flips (roots : List ℕ) (m : Mine) (t : Theirs) : Type 0 where
   pub graph : (space : SpaceWords) → Holds space t → graph_in (new_heap_of space roots t) ≡ new_graph (its t) (map value_of roots)
   pub image : (space : SpaceWords) → Holds space t → image_with space (moved_words t roots) ≡ linked_image (new_links (its t)) t.size (new_graph (its t) (map value_of roots))
   pub low : (p : ℕ × ℕ) → In p (pairs_of (its t)) → p.0 < 2 ^ 32
-  pub carried : CopiesNothingUnreachable t
+  pub carried : m.base.referred ≡ false → CopiesNothingUnreachable t
 
 -- A load with both ends at hand shows that the mutator may go on in the new space.
 abbrev pub tells_flip : OneStep → Sat → ℕ → Sat → Type 0

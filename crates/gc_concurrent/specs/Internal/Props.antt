@@ -14,7 +14,7 @@ use Rattle.gc_model.specs.Belonging.{RefersTo}
 use Rattle.gc_model.specs.Carried.{LeadsOnlyTo}
 use Rattle.gc_concurrent.specs.Unreachable.{MayBeCopied}
 use Rattle.gc_monitor.specs.Watch.{IsSeen}
-use Rattle.gc_concurrent.specs.Ends.{Theirs}
+use Rattle.gc_concurrent.specs.Ends.{Beginning, Theirs}
 use Rattle.gc_concurrent.specs.Internal.Codes.{replica_coded}
 use Rattle.gc_concurrent.specs.Internal.Copiers.{Claims}
 
@@ -36,12 +36,12 @@ field_word_prop words h w = word_of_field_prop h.raw words w
 pub heap_prop : (h : HeapWords) → IsProp (IsHeap h)
 heap_prop h = hlevel (props, field_word_prop, root_word_prop)
 
-refers_to_prop : (base : HeapWords) (v : Value) → IsProp (RefersTo (MayBeCopied base) v)
+refers_to_prop : (base : Beginning) (v : Value) → IsProp (RefersTo (MayBeCopied base) v)
 refers_to_prop base Nil = hlevel props
 refers_to_prop base (Num n) = hlevel props
 refers_to_prop base (Ref a) = hlevel props
 
-pub leads_prop : (base : HeapWords) (g : Graph) → IsProp (LeadsOnlyTo (MayBeCopied base) g)
+pub leads_prop : (base : Beginning) (g : Graph) → IsProp (LeadsOnlyTo (MayBeCopied base) g)
 leads_prop base g = hlevel (props, refers_to_prop)
 
 pub replicas_prop : (a b : List Replica) → IsProp (a ≡ b)

@@ -21,6 +21,7 @@ use Rattle.gc_model.specs.Members.{In}
 use Rattle.gc_model.specs.Belonging.{IsOpened, BelongsBy}
 use Rattle.gc_heap.specs.Heap.{HeapWords}
 use Rattle.gc_concurrent.specs.Ends.{Mine, Theirs, its, one_heap, opening_mine, opening_theirs, opening_view}
+use Rattle.gc_concurrent.specs.Moves.{half}
 use Rattle.gc_concurrent.specs.Internal.Carrying.{KeepsUnreachableOut}
 use Rattle.gc_concurrent.specs.Internal.Plans.{collection_of, plan}
 use Rattle.gc_concurrent.specs.Internal.Told.{ComesFromSeen}
@@ -51,7 +52,7 @@ pub record IsAtRest (m : Mine) (t : Theirs) : Type 0 where
 
 -- The mutator's words are those of the table, and the words behind them are 0. They are a closed space, and the collection is open in
 -- gc_model's sense: a field of a replica is up to date unless it is not yet scanned, or in one of the two logs. Nothing that was unreachable when
--- the collection began is copied. The replicas take no more words than the objects. While writes are not logged, the collection is at rest.
+-- the collection began is copied, until a reference is made from an address alone. The replicas take no more words than the objects. While writes are not logged, the collection is at rest.
 -- The words come from those that the standing checker has seen by the writes in the log, and by objects made.
 pub record IsConcurrent (size : ℕ) (s : State RootWords View) : Type 0 where
   pub mine : Mine
@@ -86,6 +87,10 @@ made h m = record m { space = with_object m.space h }
 -- the word of a link was written
 abbrev pub linked_to : ℕ → ℕ → Mine → Mine
 linked_to a w m = record m { space = with_link m.space a w }
+
+-- a reference was made from an address alone
+abbrev pub referring : Mine → Mine
+referring m = record m { base = record m.base { referred = true } }
 
 -- field i of the replica of `name` becomes what this value of its original moves to
 abbrev pub brought : ℕ → ℕ → Value → Theirs → Theirs
@@ -145,15 +150,20 @@ placed_one name object t = record t { replicas = t.replicas ++ blank_replica nam
 abbrev pub entry_dropped : Theirs → Theirs
 entry_dropped t = record t { due = drop 1 t.due }
 
--- The collection belongs to some heap in a space of this size, whatever is due.
+-- The collection belongs to some heap in a space of this size, whatever is due. No two objects of that heap start at addresses with the same half.
 pub record Loose (t : Theirs) : Type 0 where
   pub objects : List (ℕ × Object)
   pub belongs : BelongsBy (λ _ _ _ _. Unit {0}) objects (its t)
   pub within : (a : ℕ) (o : Object) → lookup objects a ≡ Some o → a + (length o.fields + 2) ≤ t.old
+  pub apart : (a b : ℕ) → IsSome (lookup objects a) → IsSome (lookup objects b) → half a ≡ half b → a ≡ b
   pub wanted : (a : ℕ) → In a t.wanted → (o : Object) × (lookup objects a ≡ Some o)
   pub high : t.size ≤ 4294967295
   pub old_low : 1 ≤ t.old
   pub old_high : t.old ≤ 4294967295
+
+-- each replica is that of an object of the mutator's space
+abbrev pub StartsThere : Mine → Theirs → Type 0
+StartsThere m t = (r : Replica) → In r t.replicas → IsTrue (is_start m.space.words r.original)
 
 abbrev pub only_writes : View → View
 only_writes v = record v { copies = false }
@@ -190,10 +200,14 @@ abbrev pub tells_put : OneStep → Sat → ℕ → Sat → Type 0
 tells_put st me found me' = (a i : ℕ) → st.word ≡ field_place a i → IsSome (field_at me.0.mine.space.words a i) → (me' ≡ (record me.0 { mine = wrote a i st.first me.0.mine }, me.1))
 
 abbrev pub tells_new : OneStep → Sat → ℕ → Sat → Type 0
-tells_new st me found me' = (h : Header) → IsHeader h → header_word h ≡ st.first → me' ≡ (record me.0 { mine = made h me.0.mine }, me.1)
+tells_new st me found me' = ((h : Header) → IsHeader h → header_word h ≡ st.first → me' ≡ (record me.0 { mine = made h me.0.mine }, me.1)) × IsClosed me.0.mine.space.words []
 
 abbrev pub tells_link : OneStep → Sat → ℕ → Sat → Type 0
 tells_link st me found me' = (a : ℕ) → st.word ≡ link_place a → IsTrue (is_start me.0.mine.space.words a) → me' ≡ (record me.0 { mine = linked_to a st.first me.0.mine }, me.1)
+
+-- The header of an object was read, to which a reference is made from its address alone.
+abbrev pub tells_refer : OneStep → Sat → ℕ → Sat → Type 0
+tells_refer st me found me' = me' ≡ (record me.0 { mine = referring me.0.mine }, me.1)
 
 -- The field at the scan pointer was read. Its replica is up to date from this moment on.
 abbrev pub tells_scan_of : Theirs → OneStep → Sat → ℕ → Sat → Type 0
@@ -212,11 +226,12 @@ abbrev pub tells_apply : OneStep → Sat → ℕ → Sat → Type 0
 tells_apply st me found me' = tells_apply_of me.0.theirs st me found me' × KnowsBelonging me'
 
 -- The header of an object that is wanted was read: it has a replica from this moment on, if there is room. The fields of a raw one are still to be brought.
--- There is room if the new space is as large as the old one, and the replicas then take no more words than the objects.
+-- There is room if the new space is as large as the old one, and the replicas then take no more words than the objects. With both ends at hand, the object is
+-- one of the mutator's space.
 abbrev pub tells_place_of : Theirs → OneStep → Sat → ℕ → Sat → Type 0
 tells_place_of t st me found me' = (In st.word t.wanted → replica_of (its t) st.word ≡ None → (o : Object) × (read_header found ≡ Some (record { raw = o.raw; kind = o.kind; len = length o.fields }))
     × (me' ≡ (record me.0 { theirs = if nat_lt (new_free (its t)) (object_words (length o.fields)) then t else placed_one st.word o t }, me.1))
-    × (t.old ≤ t.size → nat_lt (new_free (its t)) (object_words (length o.fields)) ≡ false) × (me.0.writes ≡ true → new_end (its t) + object_words (length o.fields) ≤ end_of me.0.mine.space))
+    × (t.old ≤ t.size → nat_lt (new_free (its t)) (object_words (length o.fields)) ≡ false) × (me.0.writes ≡ true → new_end (its t) + object_words (length o.fields) ≤ end_of me.0.mine.space) × (me.0.writes ≡ true → IsTrue (is_start me.0.mine.space.words st.word)))
 
 abbrev pub tells_place : OneStep → Sat → ℕ → Sat → Type 0
 tells_place st me found me' = tells_place_of me.0.theirs st me found me' × KnowsBelonging me'
@@ -240,9 +255,9 @@ pub record CatchesUp (v : View) : Type 0 where
   pub told : ComesFromSeen v.seen v.mine
   pub rests : v.mine.logs ≡ false → (v.theirs.replicas ≡ []) × (v.mine.log ≡ [])
 
--- The mutator's log becomes the collector's. Both ends know the same heap with which the collection began.
+-- The mutator's log becomes the collector's. Both ends know the same heap with which the collection began. All originals are objects of the mutator's space.
 abbrev pub tells_take : OneStep → Sat → ℕ → Sat → Type 0
-tells_take st me found me' = ((me' ≡ (logs_taken me.0, me.1)) × (me.0.theirs.base ≡ me.0.mine.base) × CatchesUp me.0) × KnowsBelonging me'
+tells_take st me found me' = ((me' ≡ (logs_taken me.0, me.1)) × (me.0.theirs.base ≡ me.0.mine.base.heap) × CatchesUp me.0 × StartsThere me.0.mine me.0.theirs) × KnowsBelonging me'
 
 -- The target of one of the mutator's roots is wanted. From now on writes are logged.
 abbrev pub root_wanted : ℕ → View → View
@@ -273,9 +288,15 @@ seeing seen me = (record me.0 { seen = seen }, me.1)
 abbrev pub tells_look : OneStep → Sat → ℕ → Sat → Type 0
 tells_look st me found me' = (a i : ℕ) → IsSome (field_at me.0.seen a i) → st.word ≡ field_place a i → me' ≡ seeing (slice_set me.0.seen st.word found) me
 
+-- The header of a replica's original was read. It is that of the replica, and the original starts among the words that were seen, if they reach so far.
+pub record IsOriginal (seen : List ℕ) (found : ℕ) (r : Replica) : Type 0 where
+  pub header : read_header found ≡ Some (record { raw = r.object.raw; kind = r.object.kind; len = length r.object.fields })
+  pub start : r.original < length seen → IsTrue (is_start seen r.original)
+
 -- The header of an object that was seen was read. It is the same as then.
 abbrev pub tells_header : OneStep → Sat → ℕ → Sat → Type 0
 tells_header st me found me' = (me' ≡ me) × ((h : Header) → header_at me.0.seen st.word ≡ Some h → read_header found ≡ Some h)
+    × ((r : Replica) → In r me.0.theirs.replicas → r.original ≡ st.word → IsOriginal me.0.seen found r)
 
 -- An object starts behind the words up to n: it was seen, or it is now.
 pub record SeesNext (n found : ℕ) (me me' : Sat) : Type 0 where
@@ -285,7 +306,15 @@ pub record SeesNext (n found : ℕ) (me me' : Sat) : Type 0 where
   pub read : read_header found ≡ Some header
   pub next : IsNext n (me.0.seen ++ more) header
   pub whole : IsSeen (length (me.0.seen ++ more)) (me.0.seen ++ more)
+  pub fits : length (me.0.seen ++ more) ≤ me.0.theirs.old
+  pub starts : (a : ℕ) → IsTrue (is_start (me.0.seen ++ more) a) → a < length me.0.seen → IsTrue (is_start me.0.seen a)
+
+-- No object starts behind the words up to n: all originals lie before, and so do the words of the mutator, if this seat is the mutator's too.
+pub record SeesEnd (n : ℕ) (me me' : Sat) : Type 0 where
+  pub same : me' ≡ me
+  pub originals : (r : Replica) → In r me.0.theirs.replicas → r.original < n
+  pub words : me.0.writes ≡ true → length me.0.mine.space.words ≤ n
 
 -- The word behind those up to which the checker has walked was read.
 abbrev pub tells_see : OneStep → Sat → ℕ → Sat → Type 0
-tells_see st me found me' = IsSeen st.word me.0.seen → (found ≡ 0 → me' ≡ me) × (found ≢ 0 → SeesNext st.word found me me')
+tells_see st me found me' = IsSeen st.word me.0.seen → (found ≡ 0 → SeesEnd st.word me me') × (found ≢ 0 → SeesNext st.word found me me')

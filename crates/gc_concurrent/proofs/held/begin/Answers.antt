@@ -3,7 +3,8 @@ use Rattle.std.proofs.Common.{◌≡◌, ℕ, List, length, ap, sym, ◌∙◌, 
 use Rattle.gc_words.specs.Space.{end_of}
 use Rattle.gc_heap.specs.Heap.{HeapWords, IsHeap, graph_in}
 use Rattle.gc_model.specs.Carried.{LeadsOnlyTo}
-use Rattle.gc_concurrent.specs.Ends.{Mine, one_heap, opening_mine}
+use Rattle.gc_concurrent.specs.Ends.{Mine, Theirs, one_heap, opening_mine}
+use Rattle.gc_concurrent.specs.Internal.Knowing.{Knows}
 use Rattle.gc_concurrent.specs.Heaps.{heap_of}
 use Rattle.gc_concurrent.specs.Unreachable.{MayBeCopied}
 use Rattle.gc_concurrent.specs.Internal.Rule.{Sat}
@@ -29,7 +30,7 @@ invariant_of-result-2 c =
     record {
       ended = ap (λ (m : Mine). length m.space.words) mine ∙ sym c.begin-one.ensures.end;
       sound = subst (λ (m : Mine). IsHeap (heap_of m c.args.roots.items)) (sym mine) c.requires.sound;
-      behind = (let e = ap (λ (m : Mine). end_of m.base.space) mine in let l = c.begin-one.ensures.end in omega arith);
+      behind = (let e = ap (λ (m : Mine). end_of m.base.heap.space) mine in let l = c.begin-one.ensures.end in omega arith);
       leads = subst (λ (m : Mine). LeadsOnlyTo (MayBeCopied m.base) (graph_in (heap_of m c.args.roots.items))) (sym mine) (begins_kept heap c.requires.sound);
     }
 
@@ -37,3 +38,10 @@ pub invariant_of-result-3-clause-along : goal.invariant_of-result-3-clause-along
 invariant_of-result-3-clause-along c =
     subst (λ (z : List ℕ × List ℕ). ∥ Follows c.args.standing z.0 z.1 ∥₁)
     (λ i. (sym (ap (λ (m : Sat). m.0.seen) c.split_seat-seat.ensures.2 ∙ ap (λ (m : Sat). m.0.seen) c.begin-one.ensures.view) i, sym c.args.spare.small.1 i)) c.requires.along
+
+pub invariant_of-result-3-clause-knows : goal.invariant_of-result-3-clause-knows
+invariant_of-result-3-clause-knows c =
+    let split = c.split_seat-seat.ensures.2 in
+    let view = c.begin-one.ensures.view in
+    subst (λ (z : List ℕ × (List ℕ × Theirs)). ∥ Knows c.args.standing z.0 z.1.0 z.1.1 ∥₁)
+    (λ i. (sym (ap (λ (m : Sat). m.0.seen) split ∙ ap (λ (m : Sat). m.0.seen) view) i, (sym c.args.spare.small.1 i, sym (ap (λ (m : Sat). m.0.theirs) split ∙ ap (λ (m : Sat). m.0.theirs) view) i))) c.requires.knows

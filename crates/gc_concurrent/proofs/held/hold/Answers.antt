@@ -1,18 +1,24 @@
 -- Two seats become one, and the log changes hands.
-use Rattle.std.proofs.Common.{◌≡◌, [], length, ap, sym, ◌∙◌, subst, arith}
+use Rattle.std.proofs.Common.{◌≡◌, ◌/◌, ◌<◌, true, ℕ, List, [], ◌++◌, length, refl, ap, sym, ◌∙◌, subst, arith}
 use Rattle.atomic_table.specs.Seated.{TableId}
 use Rattle.gc_heap.specs.Heap.{IsHeap, graph_in}
 use Rattle.gc_words.specs.Space.{end_of}
 use Rattle.gc_model.specs.Carried.{LeadsOnlyTo}
 use Rattle.gc_concurrent.specs.Unreachable.{MayBeCopied}
-use Rattle.gc_concurrent.specs.Ends.{Mine}
+use Rattle.gc_concurrent.specs.Ends.{Known, Mine, Theirs}
+use Rattle.gc_model.specs.Members.{In}
+use Rattle.gc_model.proofs.Public.{in_right}
+use Rattle.gc_concurrent.specs.Internal.Knowing.{Knows}
+use Rattle.gc_concurrent.proofs.Knowing.{logs_brings}
+use Rattle.gc_concurrent.proofs.Known.{can_tell, is_found, knows_caught}
 use Rattle.gc_concurrent.specs.Heaps.{heap_of}
-use Rattle.gc_concurrent.specs.Internal.Rule.{Sat}
+use Rattle.gc_concurrent.specs.Internal.Rule.{KnowsBelonging, Loose, RootWords, Sat, StartsThere, logs_taken}
 use Rattle.gc_concurrent.proofs.TiedCells.{tied, tied_words}
 use Rattle.gc_concurrent.proofs.Opening.{joins_rule}
 use Rattle.gc_concurrent.proofs.Joined.{takes_rule}
 use Rattle.gc_concurrent.specs.Internal.Following.{Follows, WroteEach}
 use Rattle.gc_concurrent.proofs.Comparing.{along_caught}
+use Rattle.gc_concurrent.specs.Internal.Starts.{TellsStarts}
 use Rattle.gc_concurrent.proofs.held.hold.Goals as goal
 
 pub join_seat-requires : goal.join_seat-requires
@@ -55,11 +61,35 @@ invariant_of-result-2 c =
       logging = ap (λ (x : Mine). x.logs) mine ∙ m.logging;
       empty = (c.clear.ensures.items, ap (λ (x : Mine). x.log) mine);
       ended = (ap (λ (x : Mine). length x.space.words) mine ∙ c.args.commander.ended, ap (λ (x : Mine). x.space.size) mine ∙ (m.sized ∙ size));
-      behind = (let e = ap (λ (x : Mine). end_of x.base.space) mine in let b = c.args.commander.behind in omega arith);
-      begun = ap (λ (x : Sat). x.0.theirs.base) took ∙ (c.load.ensures.2.0.1 ∙ sym (ap (λ (x : Sat). x.0.mine.base) took));
+      behind = (let e = ap (λ (x : Mine). end_of x.base.heap.space) mine in let b = c.args.commander.behind in omega arith);
+      begun = ap (λ (x : Sat). x.0.theirs.base) took ∙ (c.load.ensures.2.0.1 ∙ sym (ap (λ (x : Sat). x.0.mine.base.heap) took));
+      starts_there = subst (λ (z : Mine × Theirs). StartsThere z.0 z.1) (λ i. ((sym took i).0.mine, (sym took i).0.theirs)) c.load.ensures.2.0.3;
       leads = subst (λ (x : Mine). LeadsOnlyTo (MayBeCopied x.base) (graph_in (heap_of x c.args.commander.roots.items))) (sym mine) c.args.commander.leads;
       sound = subst (λ (x : Mine). IsHeap (heap_of x c.args.commander.roots.items)) (sym mine) c.args.commander.sound;
+      wide = subst (λ (n : ℕ). n / 64 < length m.starts.items) size m.wide;
+      marked = subst (λ (x : Mine). TellsStarts m.starts.items x.space.words) (sym mine) m.marked;
     }
+
+-- what the collector knows with the log
+abbrev with_log : Known → Theirs
+with_log v = record v.theirs { due = v.theirs.due ++ v.mine.log }
+
+loose_after : (v : Known) (me : Sat) (hands : List (ℕ × RootWords)) → me ≡ (logs_taken v, hands) → v.copies ≡ true → KnowsBelonging me → ∥ Loose (with_log v) ∥₁
+loose_after v me hands took copies knows = subst (λ (t : Theirs). ∥ Loose t ∥₁) (ap (λ (x : Sat). x.0.theirs) took) (knows (ap (λ (x : Sat). x.0.copies) took ∙ copies))
+
+pub tell-requires-clause-found : goal.tell-requires-clause-found
+tell-requires-clause-found c = is_found c.args.copier
+
+pub tell-requires-clause-claims : goal.tell-requires-clause-claims
+tell-requires-clause-claims c =
+    let a = c.args.copier in
+    let m = c.args.commander.mutator in
+    let joined = c.join_seat.ensures.2 in
+    let v = c.join_seat.new.seat.me.0 in
+    let took = c.load.ensures.2.0.0 in
+    let log : c.as_slice-2.result.now ≡ v.mine.log = c.as_slice-2.ensures.value ∙ sym m.logged ∙ sym (ap (λ (x : Sat). x.0.mine.log) joined) in
+    can_tell a c.as_slice.result.now c.as_slice-2.result.now (with_log v) c.as_slice.ensures.value (loose_after v c.load.new.seat.me _ took (ap (λ (x : Sat). x.0.copies) joined) c.load.ensures.2.1) (ap (λ (x : Sat). x.0.theirs.replicas) joined)
+    (λ x i there. (0, in_right (x, i) v.theirs.due v.mine.log (subst (In {X = ℕ × ℕ} (x, i)) log there)))
 
 pub invariant_of-result-clause-along : goal.invariant_of-result-clause-along
 invariant_of-result-clause-along c =
@@ -71,3 +101,16 @@ invariant_of-result-clause-along c =
     (along_caught a c.join_seat.new.seat.me.0 c.tell.new.standing (ap (λ (x : Sat). x.0.seen) joined) (ap (λ (x : Sat). x.0.theirs) joined) c.load.ensures.2.0.2
     c.tell.ensures.lost
     (λ found. subst (λ xs. WroteEach xs a.standing c.tell.new.standing) log (c.tell.ensures.told found)))
+
+pub invariant_of-result-clause-knows : goal.invariant_of-result-clause-knows
+invariant_of-result-clause-knows c =
+    let a = c.args.copier in
+    let m = c.args.commander.mutator in
+    let joined = c.join_seat.ensures.2 in
+    let v = c.join_seat.new.seat.me.0 in
+    let took = c.load.ensures.2.0.0 in
+    let log : c.as_slice-2.result.now ≡ v.mine.log = c.as_slice-2.ensures.value ∙ sym m.logged ∙ sym (ap (λ (x : Sat). x.0.mine.log) joined) in
+    subst (λ (z : List ℕ × Theirs). ∥ Knows c.tell.new.standing z.0 a.space.words z.1 ∥₁) (λ i. (sym (ap (λ (x : Sat). x.0.seen) took) i, sym (ap (λ (x : Sat). x.0.theirs) took) i))
+    (knows_caught a v c.tell.new.standing (with_log v) (ap (λ (x : Sat). x.0.seen) joined) (ap (λ (x : Sat). x.0.theirs) joined) c.load.ensures.2.0.2
+    (subst (λ xs. WroteEach xs a.standing c.tell.new.standing) log (c.tell.ensures.told c.tell.ensures.found)) (loose_after v c.load.new.seat.me _ took (ap (λ (x : Sat). x.0.copies) joined) c.load.ensures.2.1) (logs_brings v.mine.log v.theirs) refl
+    (λ x i there. (0, in_right (x, i) v.theirs.due v.mine.log there)))

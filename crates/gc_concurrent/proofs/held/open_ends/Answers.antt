@@ -7,7 +7,9 @@ use Rattle.gc_heap.specs.Heap.{IsHeap}
 use Rattle.gc_words.specs.Image.{Block}
 use Rattle.gc_words.specs.Closed.{HasFieldWords, IsRootWord}
 use Rattle.gc_words.specs.Space.{SpaceWords, IsSpace, empty_space}
-use Rattle.gc_concurrent.specs.Ends.{one_heap}
+use Rattle.gc_concurrent.specs.Ends.{one_heap, opening_theirs}
+use Rattle.gc_concurrent.specs.Internal.Knowing.{Knows}
+use Rattle.gc_concurrent.proofs.Knowing.{opening_knows}
 use Rattle.gc_concurrent.proofs.Comparing.{opening_follows}
 use Rattle.gc_concurrent.proofs.held.open_ends.Goals as goal
 
@@ -28,3 +30,13 @@ begin-commander-requires-clause-sound c =
 
 pub begin-commander-requires-clause-along : goal.begin-commander-requires-clause-along
 begin-commander-requires-clause-along c = opening_follows c.in_ok-space.space c.args.size c.in_ok-standing.standing c.in_ok-space.ensures.shaped c.in_ok-standing.ensures
+
+pub begin-commander-requires-clause-knows : goal.begin-commander-requires-clause-knows
+begin-commander-requires-clause-knows c =
+    subst (λ (s : SpaceWords). ∥ Knows c.in_ok-standing.standing s.words (0 ∷ []) (opening_theirs (one_heap s c.in_ok-roots.roots.items) s.size 1) ∥₁) (sym c.in_ok-space.ensures.empty)
+    ∣ opening_knows c.in_ok-standing.standing c.args.size (one_heap (empty_space c.args.size) c.in_ok-roots.roots.items) c.in_ok-standing.ensures c.requires.size ∣₁
+
+pub invariant_of-copier : goal.invariant_of-copier
+invariant_of-copier c =
+    let b = c.prepare.new.self in
+    record { row = b.row; copies = b.copies; shaped = b.shaped; sized = b.sized; same = b.same; scans = b.scans; dues = b.dues; wants = b.wants; aimed = b.aimed; fills = b.fills; claimed = b.claimed; loose = b.loose; along = b.along; knows = b.knows; spared = b.spared }

@@ -26,7 +26,7 @@ loop-op-preserved g c =
       fine = fine_push told c.in-Ok.both.1 c.loop-op.invariant.fine c.in-Ok.ensures.fine;
       going = going_served (graph_in (heap_in c.args.runner.commander)) (by_one c.args.ops.now) (heap_in c.loop-op.runner.commander) (heap_in c.in-Ok.both.0.commander) (heap_in c.poll-runner.result.commander)
           c.args.ops.now c.loop-op.op-index told c.op-item.result c.in-Ok.both.1 c.loop-op.runner.commander.sound
-          c.loop-op-test.true c.op-item.is c.loop-op.invariant.going c.in-Ok.ensures.serves c.in-Ok.ensures.fine c.poll-runner.ensures;
+          c.loop-op-test.true c.op-item.is c.loop-op.invariant.going c.in-Ok.ensures.serves c.in-Ok.ensures.fine c.poll-runner.ensures.heap;
     })
 
 -- memory runs out before a command

@@ -16,7 +16,7 @@ loop-preserved g c =
     record {
       told = c.in-Ok.ensures.told ∙ c.loop.invariant.told;
       shows = λ graph s. shows_follow graph (heap_in c.in-Ok.both.0.commander) (heap_in c.poll-runner.result.commander) c.poll-runner.result.commander.sound
-          (shows_full graph (heap_in c.loop.runner.commander) (heap_in c.in-Ok.both.0.commander) c.args.op.now c.in-Ok.both.1 c.in-Ok.ensures.does full (c.loop.invariant.shows graph s)) c.poll-runner.ensures;
+          (shows_full graph (heap_in c.loop.runner.commander) (heap_in c.in-Ok.both.0.commander) c.args.op.now c.in-Ok.both.1 c.in-Ok.ensures.does full (c.loop.invariant.shows graph s)) c.poll-runner.ensures.heap;
     }
 
 pub returns-in-Err-clause-shows : goal.returns-in-Err-clause-shows

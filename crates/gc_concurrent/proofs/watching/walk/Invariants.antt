@@ -2,14 +2,18 @@
 use Rattle.std.proofs.Common.{◌≡◌, false, ◌+◌, ◌-◌, ℕ, List, length}
 use Rattle.std.specs.Prelude.{if◌then◌else◌}
 use Rattle.gc_concurrent.specs.Internal.Rule.{seeing}
+use Rattle.gc_concurrent.specs.Ends.{Theirs}
 use Rattle.gc_concurrent.specs.Internal.Following.{Follows}
+use Rattle.gc_concurrent.specs.Internal.Knowing.{Knows}
 use Rattle.gc_concurrent.proofs.watching.walk.Given as goal
 
 abbrev pub invariant-loop-standing : goal.invariant-loop-standing
 invariant-loop-standing l =
     (l.seat.table_id ≡ l.fn.seat.table_id) × (l.seat.me ≡ seeing l.seat.me.0.seen l.fn.seat.me)
     × ((new : List ℕ) → ∥ Follows l.fn.standing l.fn.seat.me.0.seen new ∥₁ → ∥ Follows l.standing l.seat.me.0.seen new ∥₁)
-    × (l.standing.lost ≡ false → record l.standing { olds = l.fn.standing.olds } ≡ l.fn.standing)
+    × (record l.standing { olds = l.fn.standing.olds } ≡ l.fn.standing)
+    × (l.standing.lost ≡ false)
+    × ((new : List ℕ) (t : Theirs) → ∥ Follows l.fn.standing l.fn.seat.me.0.seen new ∥₁ → ∥ Knows l.fn.standing l.fn.seat.me.0.seen new t ∥₁ → ∥ Knows l.standing l.seat.me.0.seen new t ∥₁)
 
 abbrev pub decreases-loop-standing : goal.decreases-loop-standing
 decreases-loop-standing l = if l.standing.lost then 0 else 1 + (l.end - length l.standing.olds)

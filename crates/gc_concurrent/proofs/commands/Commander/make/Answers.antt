@@ -8,7 +8,7 @@ use Rattle.gc_heap.specs.Heap.{HeapWords, IsHeap, graph_in, roomy_in}
 use Rattle.gc_heap.proofs.Public.{made_heap, with_new, made, meaning}
 use Rattle.gc_model.specs.Belonging.{RefersTo}
 use Rattle.gc_model.specs.Carried.{LeadsOnlyTo}
-use Rattle.gc_concurrent.specs.Ends.{one_heap}
+use Rattle.gc_concurrent.specs.Ends.{Beginning, one_heap}
 use Rattle.gc_concurrent.specs.Unreachable.{MayBeCopied}
 use Rattle.gc_concurrent.proofs.Keeping.{behind_kept, made_leads}
 use Rattle.gc_graph.proofs.Public.{make_object}
@@ -48,10 +48,10 @@ returns-clause-step c = let e = (goal.at.returns-clause-step c).After-encode in
 pub invariant_of-self-clause-leads : goal.invariant_of-self-clause-leads
 invariant_of-self-clause-leads c =
     let e = (goal.at.invariant_of-self-clause-leads c).After-encode in
-    let began : HeapWords = c.args.self.now.mutator.seat.me.0.mine.base in
+    let began : Beginning = c.args.self.now.mutator.seat.me.0.mine.base in
     let space : SpaceWords = c.args.self.now.mutator.seat.me.0.mine.space in
     let low = c.args.self.now.behind in
-    subst (λ (x : HeapWords × SpaceWords). LeadsOnlyTo (MayBeCopied x.0) (graph_in (one_heap x.1 (slice_set c.args.self.now.roots.items c.args.place c.encode.result))))
+    subst (λ (x : Beginning × SpaceWords). LeadsOnlyTo (MayBeCopied x.0) (graph_in (one_heap x.1 (slice_set c.args.self.now.roots.items c.args.place c.encode.result))))
     (λ i. (sym c.place-at.ensures.base i, sym (c.place-at.ensures.words ∙ ap (with_object space) c.header_of.ensures) i))
     (made_leads (MayBeCopied began) space c.args.self.now.roots.items c.args.place c.encode.result (header e) (can e) c.args.self.now.leads
     (subst (RefersTo (MayBeCopied began)) (sym (meaning c.encode.result (Ref c.place-at.result.0) c.encode.ensures.read_back)) (behind_kept began c.place-at.result.0 (let at = c.place-at.ensures.at in omega arith))))

@@ -1,148 +1,39 @@
--- As gc_heap's `put_at`.
-use Rattle.std.proofs.lemmas.Grind.{common_steps}
-use Rattle.std.proofs.Common.{ℕ, Option, Some, is_none, is_some, true, ◌&&◌, ◌≡◌, ap, ◌<◌, ◌∙◌, refl, sym, subst, arith}
-use Rattle.std.specs.Prelude.{not, IsSome}
-use Rattle.gc_graph.specs.Graph.{Graph, object_of, field_of, root}
-use Rattle.gc_graph.specs.Machine.{is_number, put_field}
-use Rattle.gc_graph.specs.declared.reply.Reply.{Reply}
-use Rattle.gc_graph.specs.declared.reply.Reply.TheVariants.{NoField, NoNumber, Done}
-use Rattle.gc_words.specs.Word.{value_of, field_value}
-use Rattle.gc_words.specs.Image.{field_at}
-use Rattle.gc_words.specs.Space.{SpaceWords, with_field_at}
-use Rattle.gc_words.specs.Closed.{IsFieldWord, IsRootWord}
-use Rattle.gc_words.proofs.Public.{field_within, field_past}
-use Rattle.gc_heap.specs.Heap.{HeapWords, IsHeap, graph_in}
-use Rattle.gc_heap.proofs.Public.{Points, points, read_root, root_word, at_root, header_is, put_no_field, put_refused, put_done, written_heap}
-use Rattle.std.specs.Prelude.{OnOk, OnErr, Result, Ok, Err}
-use Rattle.gc_concurrent.specs.Internal.Rule.{Sat}
-use Rattle.gc_words.specs.Image.{block_at}
-use Rattle.gc_words.specs.declared.header.Header.{Header}
+-- The value of a root is written.
+use Rattle.std.proofs.Common.{◌≡◌, ap, ◌∙◌, refl, sym, subst}
+use Rattle.std.specs.Prelude.{slice_index}
+use Rattle.gc_graph.specs.Graph.{Graph, Value, object_of, field_of, root}
+use Rattle.gc_graph.specs.Machine.{put_field}
+use Rattle.gc_words.specs.Word.{value_of}
+use Rattle.gc_words.specs.Closed.{IsRootWord}
+use Rattle.gc_heap.specs.Heap.{HeapWords, graph_in}
+use Rattle.gc_heap.proofs.Public.{read_root, root_word, at_root}
 use Rattle.gc_model.specs.Belonging.{RefersTo}
-use Rattle.gc_model.specs.Carried.{LeadsOnlyTo}
+use Rattle.gc_concurrent.specs.Holders.{heap_in}
 use Rattle.gc_concurrent.specs.Unreachable.{MayBeCopied}
-use Rattle.gc_concurrent.proofs.Keeping.{root_refers_to, wrote_leads}
-use Rattle.gc_concurrent.specs.Ends.{Mine}
-use Rattle.gc_concurrent.specs.Heaps.{heap_of}
+use Rattle.gc_concurrent.proofs.Keeping.{root_refers_to}
 use Rattle.gc_concurrent.proofs.commands.Commander.put.Goals as goal
-use Rattle.gc_concurrent.proofs.commands.Commander.put.Goals.{After-header-header, After-field_word, After-set_field}
+use Rattle.gc_concurrent.proofs.commands.Commander.put.Goals.{After-index-value}
 
-abbrev Puts : HeapWords → ℕ → ℕ → ℕ → Reply × Graph → Type 0
-Puts h s i t made =
-    let object = object_of (graph_in h).objects (root (graph_in h) s) in
-    made ≡ put_field (graph_in h) (root (graph_in h) s) object (field_of object i) i (root (graph_in h) t)
+abbrev heap : After-index-value → HeapWords
+heap c = heap_in c.args.self.now
 
-abbrev heap : After-header-header → HeapWords
-heap c = heap_of c.args.self.now.mutator.seat.me.0.mine c.args.self.now.roots.items
+read : (c : After-index-value) → c.index-value.result.now ≡ slice_index (heap c).roots c.args.t
+read c = read_root (heap c) (heap c).roots c.args.t _ refl c.requires.giver c.index-value.ensures
 
-target : (c : After-header-header) → Points (heap c) c.args.s c.in-Some.at.0
-target c = points (heap c) (heap c) c.args.s c.in-Some.at.0 _ refl c.args.self.now.sound c.requires.target c.index-target.ensures c.in-Some.ensures
+value : (c : After-index-value) → root (graph_in (heap c)) c.args.t ≡ value_of c.index-value.result.now
+value c = at_root (heap c) c.args.t c.index-value.result.now (read c)
 
-header : (c : After-header-header) → (target c).block.header ≡ c.header-header.result
-header c = header_is (heap c) c.args.s c.in-Some.at.0 c.header-header.result (target c) c.header-header.ensures.value
+pub write-requires-clause-word : goal.write-requires-clause-word
+write-requires-clause-word c = let e = (goal.at.write-requires-clause-word c).After-index-value in
+    subst (IsRootWord (heap e).space.words) (sym (read e)) (root_word (heap e) c.args.t c.args.self.now.sound c.requires.giver)
 
--- reading the header leaves the heap
-still : (c : After-header-header) → c.args.self.now.mutator.seat.me.0.mine ≡ c.header-header.new.self.seat.me.0.mine
-still c = λ i. (sym c.header-header.ensures.same i).0.mine
-
-abbrev old : After-field_word → HeapWords
-old c = heap_of c.args.self.now.mutator.seat.me.0.mine c.args.self.now.roots.items
-
-value : (c : After-field_word) → root (graph_in (old c)) c.args.t ≡ value_of c.index-value.result.now
-value c = at_root (old c) c.args.t c.index-value.result.now (read_root (old c) (old c).roots c.args.t _ refl c.requires.giver c.index-value.ensures)
-
-pub returns-then-i-len-clause-graph : goal.returns-then-i-len-clause-graph
-returns-then-i-len-clause-graph c =
-    let e = (goal.at.returns-then-i-len-clause-graph c).After-header-header in
-    subst (λ (m : Mine). Puts (heap e) c.args.s c.args.i c.args.t (NoField, graph_in (heap_of m c.args.self.now.roots.items))) (still e)
-    (put_no_field (heap e) c.args.s c.in-Some.at.0 c.args.i _ (target e) (ap is_some (field_past (heap e).space.words c.in-Some.at.0 c.args.i c.header-header.result c.args.self.now.sound.space.walked c.header-header.ensures.value (omega (arith, c.if-i-len.true, c.len.ensures)))))
-
-pub set_field-requires-clause-there : goal.set_field-requires-clause-there
-set_field-requires-clause-there c =
-    let e = (goal.at.set_field-requires-clause-there c).After-header-header in
-    subst (λ (m : Mine). IsSome (field_at m.space.words c.in-Some.at.0 c.args.i)) (still e)
-    (field_within (heap e).space.words c.in-Some.at.0 c.args.i c.header-header.result c.args.self.now.sound.space.walked c.header-header.ensures.value (omega (arith, c.if-i-len.false, c.len.ensures)))
-
-some_same : {X : Type 0} {a b : X} → Some a ≡ Some b → a ≡ b
-some_same e = cc e
-
-has : (c : After-header-header) → c.args.i < c.header-header.result.len → is_some (field_at (heap c).space.words c.in-Some.at.0 c.args.i) ≡ true
-has c less = field_within (heap c).space.words c.in-Some.at.0 c.args.i c.header-header.result c.args.self.now.sound.space.walked c.header-header.ensures.value less
-
-no_word : (o : Option ℕ) → ((x : ℕ) → o ≡ Some x → ⊥) → is_none o ≡ true
-no_word o none = grind (arith, common_steps)
-
-pub returns-in_default-field_word-clause-graph : goal.returns-in_default-field_word-clause-graph
-returns-in_default-field_word-clause-graph c =
-    let at = goal.at.returns-in_default-field_word-clause-graph c in
-    let e = at.After-header-header in
-    let f = at.After-field_word in
-    let refused = (λ i. (header e i).raw && not (is_number (value f i))) ∙ sym c.field_word.ensures.refused in
-    subst (λ (m : Mine). Puts (heap e) c.args.s c.args.i c.args.t (NoNumber, graph_in (heap_of m c.args.self.now.roots.items))) (still e)
-    (put_refused (heap e) c.args.s c.in-Some.at.0 c.args.i _ (target e) (has e (omega (arith, c.if-i-len.false, c.len.ensures))) (refused ∙ no_word c.field_word.result c.in_default-field_word.not-Some))
-
--- the space after the write
-after : (c : After-set_field) → (m : Mine) → m ≡ c.header-header.new.self.seat.me.0.mine → c.set_field.new.self.seat.me.0.mine.space ≡ with_field_at c.header-header.new.self.seat.me.0.mine.space c.in-Some.at.0 c.args.i c.in-Some-field_word.word
-    → c.set_field.new.self.seat.me.0.mine.space ≡ with_field_at m.space c.in-Some.at.0 c.args.i c.in-Some-field_word.word
-after c m e is = is ∙ ap (λ (x : Mine). with_field_at x.space c.in-Some.at.0 c.args.i c.in-Some-field_word.word) (sym e)
-
-whichever : {A E : Type 0} (r : Result A E) (X Y P : Type 0) → OnOk r X → OnErr r Y → (X → P) → (Y → P) → P
-whichever (Ok a) X Y P x y f g = f x
-whichever (Err e) X Y P x y f g = g y
-
-pub invariant_of-self-2-clause-sound : goal.invariant_of-self-2-clause-sound
-invariant_of-self-2-clause-sound c =
-    let at = goal.at.invariant_of-self-2-clause-sound c in
-    let e = at.After-header-header in
-    let h : HeapWords = heap e in
-    let fine = subst (λ w. IsRootWord h.space.words w) (sym (read_root h h.roots c.args.t c.index-value.result.now refl c.requires.giver c.index-value.ensures)) (root_word h c.args.t c.args.self.now.sound c.requires.giver) in
-    let word = subst (λ g. IsFieldWord h.space.words g c.in-Some-field_word.word) (sym (header e)) (c.in-Some-field_word.ensures.word h.space.words fine) in
-    whichever c.set_field.result
-    (c.set_field.new.self.seat.me.0.mine.space ≡ with_field_at c.header-header.new.self.seat.me.0.mine.space c.in-Some.at.0 c.args.i c.in-Some-field_word.word)
-    (c.set_field.new.self.seat.me ≡ c.header-header.new.self.seat.me)
-    (IsHeap (heap_of c.set_field.new.self.seat.me.0.mine c.args.self.now.roots.items))
-    c.set_field.ensures.ok c.set_field.ensures.err
-    (λ ok. subst (λ s. IsHeap (record h { space = s })) (sym (after at.After-set_field c.args.self.now.mutator.seat.me.0.mine (still e) ok))
-    (written_heap h c.in-Some.at.0 c.args.i _ (target e).block c.args.self.now.sound (target e).found (has e (omega (arith, c.if-i-len.false, c.len.ensures))) word))
-    (λ err. subst (λ m. IsHeap (heap_of m c.args.self.now.roots.items)) (still e ∙ ap (λ (m : Sat). m.0.mine) (sym err)) c.args.self.now.sound)
+pub write-requires-clause-allowed : goal.write-requires-clause-allowed
+write-requires-clause-allowed c = let e = (goal.at.write-requires-clause-allowed c).After-index-value in
+    let allowed = MayBeCopied c.args.self.now.mutator.seat.me.0.mine.base in
+    subst (RefersTo allowed) (value e) (root_refers_to allowed (graph_in (heap e)) c.args.t c.args.self.now.leads)
 
 pub returns-clause-graph : goal.returns-clause-graph
-returns-clause-graph c =
-    let at = goal.at.returns-clause-graph c in
-    let e = at.After-header-header in
-    let f = at.After-field_word in
-    let refused = (λ i. (header e i).raw && not (is_number (value f i))) ∙ sym c.field_word.ensures.refused in
-    let means = value f ∙ sym c.in-Some-field_word.ensures.value ∙ ap (λ g. field_value g c.in-Some-field_word.word) (sym (header e)) in
-    let made : SpaceWords → Reply × Graph = λ s. (Done, graph_in (record (heap e) { space = s })) in
-    ap made (after at.After-set_field c.args.self.now.mutator.seat.me.0.mine (still e) c.in_ok-set_field.ensures.ok)
-    ∙ put_done (heap e) c.args.s c.in-Some.at.0 c.args.i _ _ (target e) c.args.self.now.sound (has e (omega (arith, c.if-i-len.false, c.len.ensures))) (refused ∙ ap is_none c.in-Some-field_word.is) means
-
--- the value of the word that is written may be referred to
-leads : (c : After-field_word) (h : Header) (w : ℕ) → (heap_header : (target_header : Header) × (target_header ≡ h)) → field_value h w ≡ value_of c.index-value.result.now → RefersTo (MayBeCopied c.args.self.now.mutator.seat.me.0.mine.base) (field_value heap_header.0 w)
-leads c h w same means = let began : HeapWords = c.args.self.now.mutator.seat.me.0.mine.base in
-    subst (RefersTo (MayBeCopied began)) (value c ∙ (sym means ∙ ap (λ g. field_value g w) (sym same.1))) (root_refers_to (MayBeCopied began) (graph_in (old c)) c.args.t c.args.self.now.leads)
-
-pub set_field-requires-clause-allowed : goal.set_field-requires-clause-allowed
-set_field-requires-clause-allowed c b found =
-    let at = goal.at.set_field-requires-clause-allowed c in
-    let e = at.After-header-header in
-    let block : (target e).block ≡ b = some_same (sym (target e).found ∙ (λ i. block_at (still e i).space.words c.in-Some.at.0) ∙ found) in
-    subst (λ (m : Mine). RefersTo (MayBeCopied m.base) (field_value b.header c.in-Some-field_word.word)) (still e)
-    (leads at.After-field_word c.header-header.result c.in-Some-field_word.word (b.header, (λ i. (sym block i).header) ∙ header e) c.in-Some-field_word.ensures.value)
-
-pub invariant_of-self-2-clause-leads : goal.invariant_of-self-2-clause-leads
-invariant_of-self-2-clause-leads c =
-    let at = goal.at.invariant_of-self-2-clause-leads c in
-    let e = at.After-header-header in
-    let h : HeapWords = heap e in
-    let began : HeapWords = c.args.self.now.mutator.seat.me.0.mine.base in
-    let base : c.set_field.new.self.seat.me.0.mine.base ≡ began = c.set_field.ensures.base ∙ (λ i. (sym (still e) i).base) in
-    subst (λ (x : HeapWords). LeadsOnlyTo (MayBeCopied x) (graph_in (heap_of c.set_field.new.self.seat.me.0.mine c.args.self.now.roots.items))) (sym base)
-    (whichever c.set_field.result
-    (c.set_field.new.self.seat.me.0.mine.space ≡ with_field_at c.header-header.new.self.seat.me.0.mine.space c.in-Some.at.0 c.args.i c.in-Some-field_word.word)
-    (c.set_field.new.self.seat.me ≡ c.header-header.new.self.seat.me)
-    (LeadsOnlyTo (MayBeCopied began) (graph_in (heap_of c.set_field.new.self.seat.me.0.mine c.args.self.now.roots.items)))
-    c.set_field.ensures.ok c.set_field.ensures.err
-    (λ ok. subst (λ s. LeadsOnlyTo (MayBeCopied began) (graph_in (record h { space = s }))) (sym (after at.After-set_field c.args.self.now.mutator.seat.me.0.mine (still e) ok))
-    (wrote_leads (MayBeCopied began) h.space h.roots c.in-Some.at.0 c.args.i _ (target e).block c.args.self.now.sound.space (has e (omega (arith, c.if-i-len.false, c.len.ensures))) (target e).found c.args.self.now.leads
-    (leads at.After-field_word c.header-header.result c.in-Some-field_word.word ((target e).block.header, header e) c.in-Some-field_word.ensures.value)))
-    (λ err. subst (λ m. LeadsOnlyTo (MayBeCopied began) (graph_in (heap_of m c.args.self.now.roots.items))) (still e ∙ ap (λ (m : Sat). m.0.mine) (sym err)) c.args.self.now.leads))
+returns-clause-graph c = let e = (goal.at.returns-clause-graph c).After-index-value in
+    let g : Graph = graph_in (heap e) in
+    let object = object_of g.objects (root g c.args.s) in
+    c.write.ensures.graph ∙ ap (λ (v : Value). put_field g (root g c.args.s) object (field_of object c.args.i) c.args.i v) (sym (value e))

@@ -1,5 +1,5 @@
 -- An entry is left out, or its field is read and written.
-use Rattle.std.proofs.Common.{rules, ◌≡◌, ◌≢◌, ◌⊎◌, ℕ, zero, suc, ◌+◌, ◌<◌, ◌≤◌, ◌==◌, Bool, true, false, true≢false, List, [], ◌∷◌, ◌++◌, drop, length, map, slice_index, Some, None, is_some, refl, ap, sym, ◌∙◌, subst, inl, inr, ⊎_elim, arith}
+use Rattle.std.proofs.Common.{◌≡◌, ◌≢◌, ℕ, zero, suc, ◌<◌, ◌==◌, Bool, true, false, true≢false, List, [], ◌∷◌, ◌++◌, drop, length, get_or, map, slice_index, Some, None, is_some, refl, ap, sym, ◌∙◌, subst, arith}
 use Rattle.std.specs.Prelude.{slice_set, IsSome, if◌then◌else◌}
 use Rattle.std.proofs.lemmas.Bool.{cond_both}
 use Rattle.atomic_table.specs.Seated.{TableId}
@@ -19,14 +19,19 @@ use Rattle.gc_concurrent.specs.declared.copier.Copier.{Copier}
 use Rattle.gc_concurrent.specs.Ends.{Theirs}
 use Rattle.gc_concurrent.specs.Internal.Rule.{Sat, Loose, IsWordAs, applied, brought, wants, after_read, lacks, read_as, entry_dropped, entries_of_fields}
 use Rattle.gc_concurrent.specs.Ends.{its}
-use Rattle.gc_concurrent.specs.Internal.Copiers.{Claims, moved_by}
+use Rattle.gc_concurrent.specs.Moves.{half}
+use Rattle.gc_concurrent.specs.Internal.Copiers.{Claims, HasOwnHalf, moved_by}
 use Rattle.gc_concurrent.proofs.TiedCells.{tied, tied_words}
 use Rattle.gc_concurrent.proofs.Copying.{applies_at}
 use Rattle.gc_concurrent.proofs.Placing.{leaves}
-use Rattle.gc_concurrent.proofs.Memory.{Stands, field_word_moved, near, at_place, entry_low, entry_field, unclaimed, target_bound, lacks_not, lacks_so, moves_so, claims_kept, claims_as, claim_low, written_same}
+use Rattle.gc_concurrent.proofs.Halves.{entry_own, target_own}
+use Rattle.gc_concurrent.proofs.Memory.{Stands, field_word_moved, near, at_place, brought_keeps, brought_starts, entry_field, unclaimed, lacks_not, lacks_so, moves_so, claims_kept, claims_as, claim_low, written_same}
 use Rattle.gc_concurrent.proofs.InHand.{mem, still_shaped, still_sized, still_same, still_spared, word_fits, claim_stands, header_there, keeps_seat, theirs_is, copies_is}
 use Rattle.gc_concurrent.proofs.Nearing.{nears_by, left_nears, applied_nears, wants_nears}
 use Rattle.gc_concurrent.specs.Internal.Following.{Follows}
+use Rattle.gc_concurrent.specs.Internal.Knowing.{Brings, Compared, Knows}
+use Rattle.gc_concurrent.proofs.Knowing.{applied_brings, left_brings, wants_brings}
+use Rattle.gc_concurrent.proofs.Known.{has_passed, is_found, its_origin, knows_compared, knows_kept}
 use Rattle.gc_concurrent.proofs.Comparing.{theirs_seen, copies_seen, keeps_seen, nears_seen, loose_seen, along_still, along_written, can_compare, field_again, word_there}
 use Rattle.gc_concurrent.proofs.copier.Copier.apply_one.Goals as goal
 use Rattle.gc_concurrent.proofs.copier.Copier.apply_one.Goals.{After-load-word}
@@ -36,15 +41,15 @@ due_is : (a : Copier) (row : List (ℕ × ℕ)) (name i : ℕ) (rest : List (ℕ
 due_is a row name i rest e h = a.dues.0 ∙ (ap (λ (r : List (ℕ × ℕ)). entries_of_fields a.fill a.fill_next a.fill_left ++ drop a.next r) (sym e) ∙ h)
 
 -- the claim of the entry's object
-place_is : (a : Copier) (name place : ℕ) → name + 2 ≤ a.seat.me.0.theirs.old → place ≡ Rattle.std.proofs.Common.get_or a.claims.items name place → slice_index a.claims.items name ≡ place
-place_is a name place low e = at_place a.claims.items name place (let n = a.claimed.long in omega arith) e
+place_is : (a : Copier) (name k place : ℕ) → HasOwnHalf a.seat.me.0.theirs name → k ≡ half name → place ≡ get_or a.claims.items k place → slice_index a.claims.items (half name) ≡ place
+place_is a name k place own is e = ap (slice_index a.claims.items) (sym is) ∙ at_place a.claims.items k place (let n = a.claimed.long in let w = own.near in omega arith) e
 
 pub index-place-requires : goal.index-place-requires
 index-place-requires c =
     let a = c.args.self.now in
     let d = due_is a c.as_slice.result.now c.in-Some.oldest.name c.in-Some.oldest.field _ c.as_slice.ensures.value c.in-Some.ensures.some in
-    let low = entry_low a.seat.me.0.theirs a.loose c.in-Some.oldest.name c.in-Some.oldest.field _ d in
-    let n = a.claimed.long in omega arith
+    let own = (entry_own a.seat.me.0.theirs a.loose c.in-Some.oldest.name c.in-Some.oldest.field _ d).near in
+    let n = a.claimed.long in omega (arith, c.half.ensures)
 
 -- ---- an entry without a replica
 
@@ -52,19 +57,19 @@ pub load-requires : goal.load-requires
 load-requires c =
     let a = c.args.self.now in
     let d = due_is a c.as_slice.result.now c.in-Some.oldest.name c.in-Some.oldest.field _ c.as_slice.ensures.value c.in-Some.ensures.some in
-    let low = entry_low a.seat.me.0.theirs a.loose c.in-Some.oldest.name c.in-Some.oldest.field _ d in
-    let missing = unclaimed a.claims.items a.seat.me.0.theirs c.in-Some.oldest.name a.loose a.claimed (omega arith) (place_is a c.in-Some.oldest.name c.index-place.result.now low c.index-place.ensures ∙ c.if-place-eq0.true) in (
+    let own = entry_own a.seat.me.0.theirs a.loose c.in-Some.oldest.name c.in-Some.oldest.field _ d in
+    let missing = unclaimed a.claims.items a.seat.me.0.theirs c.in-Some.oldest.name a.loose a.claimed own (place_is a c.in-Some.oldest.name c.half.result c.index-place.result.now own c.half.ensures c.index-place.ensures ∙ c.if-place-eq0.true) in (
       tied _ _ _ c.deref-cells.ensures a.row.0,
       (let o = a.sized.0 in let w = tied_words _ _ _ _ c.deref-cells.ensures a.row.0 a.row.1 in omega arith),
       leaves _ _ _ _ _ (c.in-Some.oldest.name, c.in-Some.oldest.field) _ a.copies d missing,
     )
 
 -- an entry whose object has no claim is that of an object without a replica
-left_out : (a : Copier) (row : List (ℕ × ℕ)) (name i place : ℕ) (rest : List (ℕ × ℕ)) → row ≡ a.due.items → entries_of_fields a.fill a.fill_next a.fill_left ++ drop a.next row ≡ (name, i) ∷ rest
-    → place ≡ Rattle.std.proofs.Common.get_or a.claims.items name place → place ≡ 0 → replica_of (its a.seat.me.0.theirs) name ≡ None
-left_out a row name i place rest e h at none =
-    let low = entry_low a.seat.me.0.theirs a.loose name i rest (due_is a row name i rest e h) in
-    unclaimed a.claims.items a.seat.me.0.theirs name a.loose a.claimed (omega arith) (place_is a name place low at ∙ none)
+left_out : (a : Copier) (row : List (ℕ × ℕ)) (name i k place : ℕ) (rest : List (ℕ × ℕ)) → row ≡ a.due.items → entries_of_fields a.fill a.fill_next a.fill_left ++ drop a.next row ≡ (name, i) ∷ rest
+    → k ≡ half name → place ≡ get_or a.claims.items k place → place ≡ 0 → replica_of (its a.seat.me.0.theirs) name ≡ None
+left_out a row name i k place rest e h is at none =
+    let own = entry_own a.seat.me.0.theirs a.loose name i rest (due_is a row name i rest e h) in
+    unclaimed a.claims.items a.seat.me.0.theirs name a.loose a.claimed own (place_is a name k place own is at ∙ none)
 
 pub invariant_of-self-then-place-eq0 : goal.invariant_of-self-then-place-eq0
 invariant_of-self-then-place-eq0 c =
@@ -72,7 +77,7 @@ invariant_of-self-then-place-eq0 c =
     let t = a.seat.me.0.theirs in
     let u : Theirs = entry_dropped t in
     let d = due_is a c.as_slice.result.now c.in-Some.oldest.name c.in-Some.oldest.field _ c.as_slice.ensures.value c.in-Some.ensures.some in
-    let missing = left_out a c.as_slice.result.now c.in-Some.oldest.name c.in-Some.oldest.field c.index-place.result.now _ c.as_slice.ensures.value c.in-Some.ensures.some c.index-place.ensures c.if-place-eq0.true in
+    let missing = left_out a c.as_slice.result.now c.in-Some.oldest.name c.in-Some.oldest.field c.half.result c.index-place.result.now _ c.as_slice.ensures.value c.in-Some.ensures.some c.half.ensures c.index-place.ensures c.if-place-eq0.true in
     let went = c.load.ensures.2.0 (c.in-Some.oldest.name, c.in-Some.oldest.field) _ d missing in
     let is : c.load.new.seat.me.0.theirs ≡ u = theirs_is a.seat.me c.load.new.seat.me u went in
     let copies : c.load.new.seat.me.0.copies ≡ true = copies_is a.seat.me c.load.new.seat.me u went a.copies in
@@ -94,6 +99,7 @@ invariant_of-self-then-place-eq0 c =
       claimed = subst (Claims a.claims.items) (sym is) (claims_as a.claims.items t u refl refl a.claimed);
       loose = c.load.ensures.2.1 copies;
       along = along_still a.standing a.seat.me c.load.new.seat.me a.space a.space (ap (λ (m : Sat). m.0.seen) went) refl a.along;
+      knows = knows_kept a.standing a.seat.me c.load.new.seat.me a.space a.space u (ap (λ (m : Sat). m.0.seen) went) refl is (left_brings t (c.in-Some.oldest.name, c.in-Some.oldest.field) _ d missing) a.knows;
       spared = a.spared;
     }
 
@@ -102,31 +108,31 @@ returns-then-place-eq0-clause-seat c =
     let a = c.args.self.now in
     let t = a.seat.me.0.theirs in
     let d = due_is a c.as_slice.result.now c.in-Some.oldest.name c.in-Some.oldest.field _ c.as_slice.ensures.value c.in-Some.ensures.some in
-    let missing = left_out a c.as_slice.result.now c.in-Some.oldest.name c.in-Some.oldest.field c.index-place.result.now _ c.as_slice.ensures.value c.in-Some.ensures.some c.index-place.ensures c.if-place-eq0.true in
-    keeps_seat a.seat.me c.load.new.seat.me (entry_dropped t) (c.load.ensures.2.0 (c.in-Some.oldest.name, c.in-Some.oldest.field) _ d missing) refl refl refl
+    let missing = left_out a c.as_slice.result.now c.in-Some.oldest.name c.in-Some.oldest.field c.half.result c.index-place.result.now _ c.as_slice.ensures.value c.in-Some.ensures.some c.half.ensures c.index-place.ensures c.if-place-eq0.true in
+    keeps_seat a.seat.me c.load.new.seat.me (entry_dropped t) (c.load.ensures.2.0 (c.in-Some.oldest.name, c.in-Some.oldest.field) _ d missing) refl refl refl (λ x there. there) (λ w starts. starts)
 
 -- ---- its field
 
 -- the replica, in memory
-its_replica : (a : Copier) (row : List (ℕ × ℕ)) (name i place : ℕ) (rest : List (ℕ × ℕ)) → row ≡ a.due.items → entries_of_fields a.fill a.fill_next a.fill_left ++ drop a.next row ≡ (name, i) ∷ rest
-    → place ≡ Rattle.std.proofs.Common.get_or a.claims.items name place → (place ≡ 0 → ⊥)
+its_replica : (a : Copier) (row : List (ℕ × ℕ)) (name i k place : ℕ) (rest : List (ℕ × ℕ)) → row ≡ a.due.items → entries_of_fields a.fill a.fill_next a.fill_left ++ drop a.next row ≡ (name, i) ∷ rest
+    → k ≡ half name → place ≡ get_or a.claims.items k place → (place ≡ 0 → ⊥)
     → (s : Stands a.seat.me.0.theirs a.space place) × (s.replica.original ≡ name) × (a.seat.me.0.theirs.due ≡ (s.replica.original, i) ∷ rest) × (i < length s.replica.object.fields)
-its_replica a row name i place rest e h at ne =
+its_replica a row name i k place rest e h is at ne =
     let d = due_is a row name i rest e h in
-    let low = entry_low a.seat.me.0.theirs a.loose name i rest d in
-    let s = claim_stands a name place (omega arith) (place_is a name place low at) ne in
+    let own = entry_own a.seat.me.0.theirs a.loose name i rest d in
+    let s = claim_stands a name place own (place_is a name k place own is at) ne in
     let d' : a.seat.me.0.theirs.due ≡ (s.0.replica.original, i) ∷ rest = d ∙ (λ j. (sym s.1 j, i) ∷ rest) in
     (s.0, s.1, d', entry_field a.seat.me.0.theirs a.loose s.0.replica i rest s.0.there d')
 
 pub header-header-requires : goal.header-header-requires
 header-header-requires c =
-    let r = its_replica c.args.self.now c.as_slice.result.now c.in-Some.oldest.name c.in-Some.oldest.field c.index-place.result.now _ c.as_slice.ensures.value c.in-Some.ensures.some c.index-place.ensures c.if-place-eq0.false in
+    let r = its_replica c.args.self.now c.as_slice.result.now c.in-Some.oldest.name c.in-Some.oldest.field c.half.result c.index-place.result.now _ c.as_slice.ensures.value c.in-Some.ensures.some c.half.ensures c.index-place.ensures c.if-place-eq0.false in
     ap is_some r.0.found
 
 pub load-word-requires : goal.load-word-requires
 load-word-requires c =
     let a = c.args.self.now in
-    let r = its_replica a c.as_slice.result.now c.in-Some.oldest.name c.in-Some.oldest.field c.index-place.result.now _ c.as_slice.ensures.value c.in-Some.ensures.some c.index-place.ensures c.if-place-eq0.false in
+    let r = its_replica a c.as_slice.result.now c.in-Some.oldest.name c.in-Some.oldest.field c.half.result c.index-place.result.now _ c.as_slice.ensures.value c.in-Some.ensures.some c.half.ensures c.index-place.ensures c.if-place-eq0.false in
     let is : c.field_index.result ≡ field_place r.0.replica.original c.in-Some.oldest.field = c.field_index.ensures ∙ ap (λ n. field_place n c.in-Some.oldest.field) (sym r.1) in (
       tied _ _ _ c.deref-cells.ensures a.row.0,
       (let n = near a.seat.me.0.theirs a.loose r.0.replica r.0.there in let o = a.sized.0 in let w = tied_words _ _ _ _ c.deref-cells.ensures a.row.0 a.row.1 in let f = r.3 in omega arith),
@@ -150,13 +156,13 @@ module _ (c : After-load-word) where
   place = c.index-place.result.now
 
   abbrev r : (s : Stands c.args.self.now.seat.me.0.theirs c.args.self.now.space c.index-place.result.now) × (s.replica.original ≡ c.in-Some.oldest.name) × (c.args.self.now.seat.me.0.theirs.due ≡ (s.replica.original, c.in-Some.oldest.field) ∷ (entries_of_fields c.args.self.now.fill c.in-Some.oldest.fill_next c.in-Some.oldest.fill_left ++ drop c.in-Some.oldest.next c.as_slice.result.now)) × (c.in-Some.oldest.field < length s.replica.object.fields)
-  r = its_replica c.args.self.now c.as_slice.result.now c.in-Some.oldest.name c.in-Some.oldest.field c.index-place.result.now (entries_of_fields c.args.self.now.fill c.in-Some.oldest.fill_next c.in-Some.oldest.fill_left ++ drop c.in-Some.oldest.next c.as_slice.result.now) c.as_slice.ensures.value c.in-Some.ensures.some c.index-place.ensures c.if-place-eq0.false
+  r = its_replica c.args.self.now c.as_slice.result.now c.in-Some.oldest.name c.in-Some.oldest.field c.half.result c.index-place.result.now (entries_of_fields c.args.self.now.fill c.in-Some.oldest.fill_next c.in-Some.oldest.fill_left ++ drop c.in-Some.oldest.next c.as_slice.result.now) c.as_slice.ensures.value c.in-Some.ensures.some c.half.ensures c.index-place.ensures c.if-place-eq0.false
 
   abbrev q : Replica
-  q = (its_replica c.args.self.now c.as_slice.result.now c.in-Some.oldest.name c.in-Some.oldest.field c.index-place.result.now (entries_of_fields c.args.self.now.fill c.in-Some.oldest.fill_next c.in-Some.oldest.fill_left ++ drop c.in-Some.oldest.next c.as_slice.result.now) c.as_slice.ensures.value c.in-Some.ensures.some c.index-place.ensures c.if-place-eq0.false).0.replica
+  q = (its_replica c.args.self.now c.as_slice.result.now c.in-Some.oldest.name c.in-Some.oldest.field c.half.result c.index-place.result.now (entries_of_fields c.args.self.now.fill c.in-Some.oldest.fill_next c.in-Some.oldest.fill_left ++ drop c.in-Some.oldest.next c.as_slice.result.now) c.as_slice.ensures.value c.in-Some.ensures.some c.half.ensures c.index-place.ensures c.if-place-eq0.false).0.replica
 
   abbrev v : Value
-  v = read_as (its_replica c.args.self.now c.as_slice.result.now c.in-Some.oldest.name c.in-Some.oldest.field c.index-place.result.now (entries_of_fields c.args.self.now.fill c.in-Some.oldest.fill_next c.in-Some.oldest.fill_left ++ drop c.in-Some.oldest.next c.as_slice.result.now) c.as_slice.ensures.value c.in-Some.ensures.some c.index-place.ensures c.if-place-eq0.false).0.replica.object.raw c.load-word.result
+  v = read_as (its_replica c.args.self.now c.as_slice.result.now c.in-Some.oldest.name c.in-Some.oldest.field c.half.result c.index-place.result.now (entries_of_fields c.args.self.now.fill c.in-Some.oldest.fill_next c.in-Some.oldest.fill_left ++ drop c.in-Some.oldest.next c.as_slice.result.now) c.as_slice.ensures.value c.in-Some.ensures.some c.half.ensures c.index-place.ensures c.if-place-eq0.false).0.replica.object.raw c.load-word.result
 
   told : IsWordAs q.object.raw c.load-word.result × (c.load-word.new.seat.me ≡ (record a.seat.me.0 { theirs = after_read (applied q.original i v) (lacks (its t) v) t }, a.seat.me.1))
   told = c.load-word.ensures.2.0 q i rest r.0.there r.2 (c.field_index.ensures ∙ ap (λ n. field_place n i) (sym r.1))
@@ -164,8 +170,8 @@ module _ (c : After-load-word) where
   loose : ∥ Loose c.load-word.new.seat.me.0.theirs ∥₁
   loose = c.load-word.ensures.2.1 (copies_is a.seat.me c.load-word.new.seat.me (after_read (applied q.original i v) (lacks (its t) v) t) told.1 a.copies)
 
-  bound : (x : ℕ) → v ≡ Ref x → x + 2 ≤ t.old
-  bound x is = target_bound t v (applied q.original i v) a.loose
+  own : (x : ℕ) → v ≡ Ref x → HasOwnHalf t x
+  own x is = target_own t v (applied q.original i v) a.loose
       (subst (λ (y : Theirs). ∥ Loose y ∥₁) (theirs_is a.seat.me c.load-word.new.seat.me (after_read (applied q.original i v) (lacks (its t) v) t) told.1) loose) x is
 
   same_header : r.0.block.header ≡ c.header-header.result
@@ -183,7 +189,7 @@ moved_field-requires-clause-value c plain = let l = (goal.at.moved_field-require
 pub moved_field-requires-clause-inside : goal.moved_field-requires-clause-inside
 moved_field-requires-clause-inside c x is =
     let l = (goal.at.moved_field-requires-clause-inside c).After-load-word in
-    let b = bound l x (ap (λ b. read_as b c.load-word.result) (raw_is l c.is_raw.result c.is_raw.ensures) ∙ is) in
+    let b = (own l x (ap (λ b. read_as b c.load-word.result) (raw_is l c.is_raw.result c.is_raw.ensures) ∙ is)).near in
     let n = ap (length {A = ℕ}) c.as_slice-2.ensures.value in let m = c.args.self.now.claimed.long in omega arith
 
 pub moved_field-requires-clause-places : goal.moved_field-requires-clause-places
@@ -204,8 +210,8 @@ set_field-requires-clause-fits c =
     let to : (x : ℕ) → read_as c.is_raw.result c.load-word.result ≡ Ref x → v l ≡ Ref x = λ x is. ap (λ b. read_as b c.load-word.result) raw ∙ is in
     let word : IsWordOfField c.is_raw.result (a l).space.words c.in-Ok.moved = field_word_moved c.is_raw.result (a l).claims.items (t l) (a l).space c.load-word.result c.in-Ok.moved (mem (a l)) (a l).claimed
     (subst (λ b. IsWordAs b c.load-word.result) raw (told l).0)
-    (c.in-Ok.ensures.moved ∙ ap (λ (r : List ℕ). moved_by r (read_as c.is_raw.result c.load-word.result)) c.as_slice-2.ensures.value) c.in-Ok.ensures.value (λ x is. bound l x (to x is))
-    (subst (λ (r : List ℕ). (x : ℕ) → read_as c.is_raw.result c.load-word.result ≡ Ref x → slice_index r x ≢ 0) c.as_slice-2.ensures.value c.in-Ok.ensures.placed) in
+    (c.in-Ok.ensures.moved ∙ ap (λ (r : List ℕ). moved_by r (read_as c.is_raw.result c.load-word.result)) c.as_slice-2.ensures.value) c.in-Ok.ensures.value (λ x is. own l x (to x is))
+    (subst (λ (r : List ℕ). (x : ℕ) → read_as c.is_raw.result c.load-word.result ≡ Ref x → slice_index r (half x) ≢ 0) c.as_slice-2.ensures.value c.in-Ok.ensures.placed) in
     word_fits (a l).space.words (place l) c.in-Ok.moved c.header-header.result c.header-header.ensures.value (subst (λ b. IsWordOfField b (a l).space.words c.in-Ok.moved) c.is_raw.ensures word)
     c.header-header.new.self (ap (λ (x : SpaceWords). x.words) c.header-header.ensures.same)
 
@@ -217,19 +223,19 @@ follows c nl = (told c).1 ∙ (λ j. (record (a c).seat.me.0 { theirs = after_re
 wanting : (c : After-load-word) (x : ℕ) → lacks (its (t c)) (v c) ≡ Some x → c.load-word.new.seat.me ≡ (record (a c).seat.me.0 { theirs = wants x (t c) }, (a c).seat.me.1)
 wanting c x is = (told c).1 ∙ (λ j. (record (a c).seat.me.0 { theirs = after_read (applied (q c).original (i c) (v c)) (is j) (t c) }, (a c).seat.me.1))
 
-none_lacks : (c : After-load-word) (row : List ℕ) (b : Bool) → row ≡ (a c).claims.items → b ≡ c.header-header.result.raw → ((x : ℕ) → read_as b c.load-word.result ≡ Ref x → slice_index row x ≢ 0)
+none_lacks : (c : After-load-word) (row : List ℕ) (b : Bool) → row ≡ (a c).claims.items → b ≡ c.header-header.result.raw → ((x : ℕ) → read_as b c.load-word.result ≡ Ref x → slice_index row (half x) ≢ 0)
     → (lacks (its (t c)) (v c) ≡ None) × (moved (its (t c)) (v c) ≡ moved_by row (read_as b c.load-word.result))
 none_lacks c row b e raw ne =
     let to : v c ≡ read_as b c.load-word.result = ap (λ b. read_as b c.load-word.result) (raw_is c b raw) in
-    let ne' = subst (λ (z : List ℕ × Value). (x : ℕ) → z.1 ≡ Ref x → slice_index z.0 x ≢ 0) (λ j. (e j, sym to j)) ne in (
-      lacks_not (a c).claims.items (t c) (v c) (a c).claimed (bound c) ne',
-      moves_so (a c).claims.items (t c) (v c) (a c).claimed (bound c) ne' ∙ (λ j. moved_by (sym e j) (to j)),
+    let ne' = subst (λ (z : List ℕ × Value). (x : ℕ) → z.1 ≡ Ref x → slice_index z.0 (half x) ≢ 0) (λ j. (e j, sym to j)) ne in (
+      lacks_not (a c).claims.items (t c) (v c) (a c).claimed (own c) ne',
+      moves_so (a c).claims.items (t c) (v c) (a c).claimed (own c) ne' ∙ (λ j. moved_by (sym e j) (to j)),
     )
 
-one_lacks : (c : After-load-word) (row : List ℕ) (b : Bool) (x : ℕ) → row ≡ (a c).claims.items → b ≡ c.header-header.result.raw → read_as b c.load-word.result ≡ Ref x → slice_index row x ≡ 0 → lacks (its (t c)) (v c) ≡ Some x
+one_lacks : (c : After-load-word) (row : List ℕ) (b : Bool) (x : ℕ) → row ≡ (a c).claims.items → b ≡ c.header-header.result.raw → read_as b c.load-word.result ≡ Ref x → slice_index row (half x) ≡ 0 → lacks (its (t c)) (v c) ≡ Some x
 one_lacks c row b x e raw is none =
     let to : v c ≡ Ref x = ap (λ b. read_as b c.load-word.result) (raw_is c b raw) ∙ is in
-    lacks_so (a c).claims.items (t c) (v c) x (a c).loose (a c).claimed (let b = bound c x to in omega arith) to (ap (λ (r : List ℕ). slice_index r x) (sym e) ∙ none)
+    lacks_so (a c).claims.items (t c) (v c) x (a c).loose (a c).claimed (own c x to) to (ap (λ (r : List ℕ). slice_index r (half x)) (sym e) ∙ none)
 
 still_raw : (name i : ℕ) (w : Value) (r : Replica) → (with_written name i w r).object.raw ≡ r.object.raw
 still_raw name i w r = cond_both (r.original == name) _ _ (λ (q : Replica). q.object.raw ≡ r.object.raw) (λ _. refl) (λ _. refl)
@@ -307,6 +313,15 @@ invariant_of-self-in-Ok c =
           (place l) (i l) c.word.result c.in-Ok.moved c.field-written.result (a l).shaped there_field (c.set_field.ensures.words ∙ ap (λ (s : SpaceWords). with_field_at s (place l) (i l) c.in-Ok.moved) c.header-header.ensures.same) c.field-written.ensures.same
           c.field-written.ensures.value (word_there (a l).space.words (place l) c.word.result c.header-header.result (a l).shaped.walked c.header-header.ensures.value c.word.ensures.word)
           (λ ws. subst (λ z. slice_index ws (place l) ≡ c.word.result → field_place (place l) (i l) < length ws → ∥ Follows (a l).standing z ws ∥₁ → ∥ Follows c.compare.new.standing c.compare.new.seat.me.0.seen (slice_set ws (field_place (place l) (i l)) c.field-written.result) ∥₁) (ap (λ (m : Sat). m.0.seen) went) (c.compare.ensures.along ws)) (a l).along;
+      knows = subst (λ (y : Theirs). ∥ Knows c.compare.new.standing c.compare.new.seat.me.0.seen c.field-written.new.self.words y ∥₁) (sym is)
+          (knows_compared (a l) c.compare.new.standing c.compare.new.seat.me.0.seen c.set_field.new.self c.field-written.new.self (q l) (place l) (i l) c.word.result c.in-Ok.moved c.field-written.result u
+          (r l).0.there (r l).0.place_is (r l).3
+          (word_there (a l).space.words (place l) c.word.result c.header-header.result (a l).shaped.walked c.header-header.ensures.value c.word.ensures.word)
+          there_field (c.set_field.ensures.words ∙ ap (λ (s : SpaceWords). with_field_at s (place l) (i l) c.in-Ok.moved) c.header-header.ensures.same) c.field-written.ensures.same c.field-written.ensures.value
+          (subst (λ z. slice_index (a l).space.words (place l) ≡ c.word.result → field_place (place l) (i l) < length (a l).space.words → ∥ Follows (a l).standing z (a l).space.words ∥₁
+          → ∥ Compared (place l) (i l) (a l).standing c.compare.new.standing z c.compare.new.seat.me.0.seen (slice_set (a l).space.words (field_place (place l) (i l)) c.field-written.result) ∥₁)
+          (ap (λ (m : Sat). m.0.seen) went) (c.compare.ensures.compared (a l).space.words))
+          (subst (λ z. Brings (λ p. p ≡ field_place z (i l)) (t l) u) (r l).0.place_is (applied_brings (t l) (q l) (i l) (v l) _ (a l).loose (r l).0.there (r l).2)));
       spared = still_spared (a l) c.field-written.new.self.size (ap (λ (x : SpaceWords). x.size) space);
     }
 
@@ -329,49 +344,66 @@ invariant_of-self-in-Err c =
       wants = ap (λ (y : Theirs). y.wanted) is;
       aimed = λ _. (
         only_values (a l) c.in-Some.oldest.name c.in-Some.ensures.fills.1 (q l) (r l).0.there (r l).1 c.is_raw.result (raw_is l c.is_raw.result c.is_raw.ensures) c.load-word.result x c.in-Err.ensures.wanted.0,
-        ap (λ (z : List ℕ). slice_index z x) (sym c.as_slice-2.ensures.value) ∙ c.in-Err.ensures.wanted.1,
+        ap (λ (z : List ℕ). slice_index z (half x)) (sym c.as_slice-2.ensures.value) ∙ c.in-Err.ensures.wanted.1,
       );
       fills = λ p k e n. (a l).fills p (subst (In p) (ap (λ (y : Theirs). y.replicas) is) k) e n;
       claimed = subst (Claims (a l).claims.items) (sym is) (claims_as (a l).claims.items (t l) u refl refl (a l).claimed);
       loose = loose l;
       along = along_still (a l).standing (a l).seat.me c.load-word.new.seat.me (a l).space c.header-header.new.self (ap (λ (m : Sat). m.0.seen) went) c.header-header.ensures.same (a l).along;
+      knows = knows_kept (a l).standing (a l).seat.me c.load-word.new.seat.me (a l).space c.header-header.new.self u (ap (λ (m : Sat). m.0.seen) went) c.header-header.ensures.same is (wants_brings x (t l)) (a l).knows;
       spared = still_spared (a l) c.header-header.new.self.size (ap (λ (x : SpaceWords). x.size) c.header-header.ensures.same);
     }
 
 pub returns-in-Ok-clause-seat : goal.returns-in-Ok-clause-seat
 returns-in-Ok-clause-seat c =
     let l = (goal.at.returns-in-Ok-clause-seat c).After-load-word in
-    keeps_seen (a l).seat.me c.load-word.new.seat.me c.compare.new.seat.me _ c.compare.ensures.seen (keeps_seat (a l).seat.me c.load-word.new.seat.me (applied (q l).original (i l) (v l) (t l)) (follows l (none_lacks l c.as_slice-2.result.now c.is_raw.result c.as_slice-2.ensures.value c.is_raw.ensures c.in-Ok.ensures.placed).0) refl refl refl)
+    keeps_seen (a l).seat.me c.load-word.new.seat.me c.compare.new.seat.me _ c.compare.ensures.seen (keeps_seat (a l).seat.me c.load-word.new.seat.me (applied (q l).original (i l) (v l) (t l)) (follows l (none_lacks l c.as_slice-2.result.now c.is_raw.result c.as_slice-2.ensures.value c.is_raw.ensures c.in-Ok.ensures.placed).0) refl refl refl (brought_keeps (t l) (q l).original (i l) (v l)) (λ w. brought_starts (a l).seat.me.0.mine (t l) (q l).original (i l) (v l)))
 
 pub returns-in-Err-clause-seat : goal.returns-in-Err-clause-seat
 returns-in-Err-clause-seat c =
     let l = (goal.at.returns-in-Err-clause-seat c).After-load-word in
     let x : ℕ = c.in-Err.target.0 in
-    keeps_seat (a l).seat.me c.load-word.new.seat.me (wants x (t l)) (wanting l x (one_lacks l c.as_slice-2.result.now c.is_raw.result x c.as_slice-2.ensures.value c.is_raw.ensures c.in-Err.ensures.wanted.0 c.in-Err.ensures.wanted.1)) refl refl refl
+    keeps_seat (a l).seat.me c.load-word.new.seat.me (wants x (t l)) (wanting l x (one_lacks l c.as_slice-2.result.now c.is_raw.result x c.as_slice-2.ensures.value c.is_raw.ensures c.in-Err.ensures.wanted.0 c.in-Err.ensures.wanted.1)) refl refl refl (λ y there. there) (λ w starts. starts)
 
 pub returns-then-place-eq0-clause-nears : goal.returns-then-place-eq0-clause-nears
 returns-then-place-eq0-clause-nears c _ =
     let a = c.args.self.now in
     let t = a.seat.me.0.theirs in
     let d = due_is a c.as_slice.result.now c.in-Some.oldest.name c.in-Some.oldest.field _ c.as_slice.ensures.value c.in-Some.ensures.some in
-    let missing = left_out a c.as_slice.result.now c.in-Some.oldest.name c.in-Some.oldest.field c.index-place.result.now _ c.as_slice.ensures.value c.in-Some.ensures.some c.index-place.ensures c.if-place-eq0.true in
-    nears_by a.seat.me c.load.new.seat.me (entry_dropped t) (c.load.ensures.2.0 (c.in-Some.oldest.name, c.in-Some.oldest.field) _ d missing) (left_nears _ t _ _ d)
+    let missing = left_out a c.as_slice.result.now c.in-Some.oldest.name c.in-Some.oldest.field c.half.result c.index-place.result.now _ c.as_slice.ensures.value c.in-Some.ensures.some c.half.ensures c.index-place.ensures c.if-place-eq0.true in
+    nears_by a.seat.me c.load.new.seat.me (entry_dropped t) (c.load.ensures.2.0 (c.in-Some.oldest.name, c.in-Some.oldest.field) _ d missing) (λ end. left_nears end t _ _ d)
 
 pub returns-in-Ok-clause-nears : goal.returns-in-Ok-clause-nears
 returns-in-Ok-clause-nears c _ =
     let l = (goal.at.returns-in-Ok-clause-nears c).After-load-word in
     nears_seen (a l).seat.me c.load-word.new.seat.me c.compare.new.seat.me _ c.compare.ensures.seen (nears_by (a l).seat.me c.load-word.new.seat.me (applied (q l).original (i l) (v l) (t l)) (follows l (none_lacks l c.as_slice-2.result.now c.is_raw.result c.as_slice-2.ensures.value c.is_raw.ensures c.in-Ok.ensures.placed).0)
-    (applied_nears _ (t l) (q l).original (i l) (v l) _ _ (r l).2))
+    (λ end. applied_nears end (t l) (q l).original (i l) (v l) _ _ (r l).2))
 
 pub returns-in-Err-clause-nears : goal.returns-in-Err-clause-nears
 returns-in-Err-clause-nears c _ =
     let l = (goal.at.returns-in-Err-clause-nears c).After-load-word in
     let x : ℕ = c.in-Err.target.0 in
     nears_by (a l).seat.me c.load-word.new.seat.me (wants x (t l)) (wanting l x (one_lacks l c.as_slice-2.result.now c.is_raw.result x c.as_slice-2.ensures.value c.is_raw.ensures c.in-Err.ensures.wanted.0 c.in-Err.ensures.wanted.1))
-    (wants_nears _ x (t l) ((a l).wants ∙ ap (λ b. if b then (a l).wanted ∷ [] else []) c.requires.clear))
+    (λ end. wants_nears end x (t l) ((a l).wants ∙ ap (λ b. if b then (a l).wanted ∷ [] else []) c.requires.clear))
 
 -- no field of a raw object wants a target
 pub returns-in-Err-clause-filled : goal.returns-in-Err-clause-filled
 returns-in-Err-clause-filled c left =
     let l = (goal.at.returns-in-Err-clause-filled c).After-load-word in
     absurd (left (only_values (a l) c.in-Some.oldest.name c.in-Some.ensures.fills.1 (q l) (r l).0.there (r l).1 c.is_raw.result (raw_is l c.is_raw.result c.is_raw.ensures) c.load-word.result c.in-Err.target.0 c.in-Err.ensures.wanted.0))
+
+pub compare-requires-clause-found : goal.compare-requires-clause-found
+compare-requires-clause-found c = is_found c.args.self.now
+
+pub compare-requires-clause-passed : goal.compare-requires-clause-passed
+compare-requires-clause-passed c =
+    let l = (goal.at.compare-requires-clause-passed c).After-load-word in
+    has_passed (a l) (q l) (i l) (place l) c.word.result (r l).0.there (r l).0.place_is (r l).3
+    (word_there (a l).space.words (place l) c.word.result c.header-header.result (a l).shaped.walked c.header-header.ensures.value c.word.ensures.word)
+
+pub compare-requires-clause-low : goal.compare-requires-clause-low
+compare-requires-clause-low c =
+    let l = (goal.at.compare-requires-clause-low c).After-load-word in
+    let e = its_origin (a l) (q l) (place l) (r l).0.there (r l).0.place_is in
+    let n = near (t l) (a l).loose (q l) (r l).0.there in
+    let o = (a l).sized.0 in let m = (r l).3 in omega arith

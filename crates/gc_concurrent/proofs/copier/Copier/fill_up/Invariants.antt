@@ -7,7 +7,6 @@ abbrev pub invariant-loop-k : goal.invariant-loop-k
 invariant-loop-k l = record {
   filled : l.self.fill_left + l.k ≡ l.left;
   clear : l.self.has_wanted ≡ false;
-  claims : l.self.claims.items ≡ l.fn.self.claims.items;
   nears : StaysOrNears l.fn.self.seat.me l.self.seat.me;
   seat : KeepsSeat l.fn.self.seat.me l.self.seat.me;
   row : (l.self.seat.table_id ≡ l.fn.self.seat.table_id) × (l.self.size ≡ l.fn.self.size);

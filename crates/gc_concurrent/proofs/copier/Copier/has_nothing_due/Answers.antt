@@ -1,5 +1,5 @@
 -- The entries of a raw object come first, and then those of the log.
-use Rattle.std.proofs.Common.{◌≡◌, ◌≤◌, ◌<◌, ap, ◌∙◌, arith}
+use Rattle.std.proofs.Common.{◌≤◌, ◌<◌, ap, ◌∙◌, arith}
 use Rattle.std.proofs.lemmas.Bool.{leb-true, leb-false}
 use Rattle.gc_model.specs.Steps.{is_empty}
 use Rattle.gc_concurrent.proofs.InHand.{none_left, some_left}

@@ -3,6 +3,7 @@ use Rattle.std.proofs.Common.{ap, sym, subst, arith}
 use Rattle.gc_model.specs.Members.{In}
 use Rattle.gc_concurrent.specs.Internal.Rule.{Sat}
 use Rattle.gc_concurrent.specs.Internal.Following.{Follows}
+use Rattle.gc_concurrent.specs.Internal.Knowing.{Knows}
 use Rattle.gc_concurrent.proofs.TiedCells.{tied, tied_words}
 use Rattle.gc_concurrent.proofs.copier.Copier.old_words.Goals as goal
 
@@ -19,3 +20,8 @@ pub invariant_of-self-clause-along : goal.invariant_of-self-clause-along
 invariant_of-self-clause-along c =
     let a = c.args.self.now in
     subst (λ (m : Sat). ∥ Follows a.standing m.0.seen a.space.words ∥₁) (sym c.loaded.ensures.same) a.along
+
+pub invariant_of-self-clause-knows : goal.invariant_of-self-clause-knows
+invariant_of-self-clause-knows c =
+    let a = c.args.self.now in
+    subst (λ (m : Sat). ∥ Knows a.standing m.0.seen a.space.words m.0.theirs ∥₁) (sym c.loaded.ensures.same) a.knows

@@ -1,42 +1,52 @@
 -- The header is read, and the replica lies at the end.
-use Rattle.std.proofs.Common.{◌≡◌, ℕ, ◌+◌, ◌<◌, ◌≤◌, Bool, true, false, true≢false, [], ◌∷◌, ◌++◌, drop, length, Some, None, is_some, refl, ap, sym, ◌∙◌, subst, inl, ⊎_elim, map, lt_of_not-le, arith}
-use Rattle.std.specs.Prelude.{if◌then◌else◌, nat_lt, slice_set}
+use Rattle.std.proofs.Common.{◌≡◌, ℕ, ◌+◌, ◌<◌, ◌≤◌, Bool, true, false, true≢false, List, [], ◌∷◌, ◌++◌, drop, length, Some, None, is_some, refl, ap, sym, ◌∙◌, subst, inl, ⊎_elim, map, lt_of_not-le, arith}
+use Rattle.std.specs.Prelude.{if◌then◌else◌, nat_lt, slice_set, IsSome}
 use Rattle.std.proofs.lemmas.Bool.{cond-true, cond-false}
 use Rattle.atomic_table.specs.Seated.{TableId}
-use Rattle.gc_graph.specs.Graph.{Object}
+use Rattle.std.proofs.Math.Logic.{∥∥₁_elim}
+use Rattle.std.proofs.Props.{props}
+use Rattle.std.proofs.lemmas.List.{length-replicate}
+use Rattle.gc_graph.specs.Graph.{Object, first_value}
 use Rattle.gc_graph.specs.Machine.{object_words}
 use Rattle.gc_words.specs.Word.{read_header}
+use Rattle.gc_words.specs.Image.{is_start}
 use Rattle.gc_words.specs.Space.{SpaceWords, CanPlace, end_of, free_in, with_object, with_link}
 use Rattle.gc_words.specs.declared.header.Header.{Header}
 use Rattle.gc_words.proofs.Public.{written_back}
 use Rattle.gc_model.specs.State.{Replica, replica_of, new_free, new_end}
 use Rattle.gc_model.specs.Members.{In}
-use Rattle.gc_model.proofs.Public.{in_map, in_push, unnamed}
+use Rattle.gc_model.proofs.Public.{in_map, in_push, in_right, unnamed}
 use Rattle.gc_copy.specs.Words.{replicas_in}
 use Rattle.gc_concurrent.specs.declared.copier.Copier.{Copier}
 use Rattle.gc_concurrent.specs.Ends.{Theirs}
 use Rattle.gc_concurrent.specs.Internal.Rule.{Sat, Loose, placed_one, blank_replica, entries_of_fields, to_fill}
 use Rattle.gc_concurrent.specs.Ends.{its}
-use Rattle.gc_concurrent.specs.Internal.Copiers.{Claims}
+use Rattle.gc_concurrent.specs.Internal.Copiers.{Claims, HasOwnHalf}
 use Rattle.gc_concurrent.proofs.TiedCells.{tied, tied_words}
 use Rattle.gc_concurrent.proofs.Placing.{places}
-use Rattle.gc_concurrent.proofs.Memory.{wanted_near, unclaimed, has_room, no_room, placed_same, claims_placed, claim_grown, claims_grown, end_is}
+use Rattle.gc_concurrent.proofs.Halves.{wanted_own}
+use Rattle.gc_concurrent.proofs.Memory.{unclaimed, has_room, no_room, placed_same, placed_keeps, placed_starts, placed_there, claims_placed, end_is, old_high, room_told}
 use Rattle.gc_concurrent.proofs.InHand.{mem, still_spared, keeps_seat, theirs_is}
-use Rattle.gc_concurrent.proofs.Nearing.{nears_by, placed_nears}
+use Rattle.gc_concurrent.proofs.Nearing.{nears_placed}
 use Rattle.gc_concurrent.proofs.Comparing.{theirs_seen, copies_seen, keeps_seen, nears_seen, loose_seen, along_placed, along_still, can_place}
+use Rattle.gc_concurrent.specs.Internal.Following.{Follows}
+use Rattle.gc_concurrent.specs.Internal.Knowing.{Knows, KnowsBefore}
+use Rattle.gc_concurrent.proofs.Placed.{placed_knows}
+use Rattle.gc_concurrent.proofs.Known.{knows_still}
 use Rattle.gc_concurrent.proofs.copier.Copier.place_wanted.Goals as goal
 use Rattle.gc_concurrent.proofs.copier.Copier.place_wanted.Goals.{After-load-word}
 
 wanted_in : (a : Copier) → a.has_wanted ≡ true → In a.wanted a.seat.me.0.theirs.wanted
 wanted_in a h = subst (In a.wanted) (sym (a.wants ∙ ap (λ b. if b then a.wanted ∷ [] else []) h)) (inl refl)
 
+own : (a : Copier) → a.has_wanted ≡ true → HasOwnHalf a.seat.me.0.theirs a.wanted
+own a h = wanted_own a.seat.me.0.theirs a.loose a.wanted (wanted_in a h)
+
 low : (a : Copier) → a.has_wanted ≡ true → a.wanted + 2 ≤ a.seat.me.0.theirs.old
-low a h = wanted_near a.seat.me.0.theirs a.loose a.wanted (wanted_in a h)
+low a h = (own a h).near
 
 missing : (a : Copier) → a.has_wanted ≡ true → replica_of (its a.seat.me.0.theirs) a.wanted ≡ None
-missing a h =
-    let l = low a h in
-    unclaimed a.claims.items a.seat.me.0.theirs a.wanted a.loose a.claimed (omega arith) (a.aimed h).1
+missing a h = unclaimed a.claims.items a.seat.me.0.theirs a.wanted a.loose a.claimed (own a h) (a.aimed h).1
 
 pub load-word-requires : goal.load-word-requires
 load-word-requires c =
@@ -58,7 +68,7 @@ module _ (c : After-load-word) where
 
   told : (o : Object) × (read_header c.load-word.result ≡ Some (record { raw = o.raw; kind = o.kind; len = length o.fields }))
       × (c.load-word.new.seat.me ≡ (record a.seat.me.0 { theirs = if nat_lt (new_free (its t)) (object_words (length o.fields)) then t else placed_one a.wanted o t }, a.seat.me.1))
-      × (t.old ≤ t.size → nat_lt (new_free (its t)) (object_words (length o.fields)) ≡ false) × (a.seat.me.0.writes ≡ true → new_end (its t) + object_words (length o.fields) ≤ end_of a.seat.me.0.mine.space)
+      × (t.old ≤ t.size → nat_lt (new_free (its t)) (object_words (length o.fields)) ≡ false) × (a.seat.me.0.writes ≡ true → new_end (its t) + object_words (length o.fields) ≤ end_of a.seat.me.0.mine.space) × (a.seat.me.0.writes ≡ true → is_start a.seat.me.0.mine.space.words a.wanted ≡ true)
   told = c.load-word.ensures.2.0 (wanted_in a c.requires.wanted) none
 
   same_header : (h : Header) → read_header c.load-word.result ≡ Some h → h ≡ record { raw = told.0.raw; kind = told.0.kind; len = length told.0.fields }
@@ -112,13 +122,14 @@ invariant_of-self c =
       claimed = subst (Claims (a l).claims.items) (sym is) (a l).claimed;
       loose = loose l;
       along = along_still (a l).standing (a l).seat.me c.load-word.new.seat.me (a l).space (a l).space (ap (λ (m : Sat). m.0.seen) went) refl (a l).along;
+      knows = knows_still (a l).standing (a l).seat.me c.load-word.new.seat.me (a l).space (a l).space (ap (λ (m : Sat). m.0.seen) went) refl is (a l).knows;
       spared = (a l).spared;
     }
 
 pub returns-then-not-has_room-clause-seat : goal.returns-then-not-has_room-clause-seat
 returns-then-not-has_room-clause-seat c =
     let l = (goal.at.returns-then-not-has_room-clause-seat c).After-load-word in
-    keeps_seat (a l).seat.me c.load-word.new.seat.me (t l) (stayed l c.of_word-header.result c.of_word-header.ensures (λ f. true≢false (sym (c.has_room.ensures.1 (let n = c.len.ensures in omega arith)) ∙ c.if-not-has_room.true))) refl refl refl
+    keeps_seat (a l).seat.me c.load-word.new.seat.me (t l) (stayed l c.of_word-header.result c.of_word-header.ensures (λ f. true≢false (sym (c.has_room.ensures.1 (let n = c.len.ensures in omega arith)) ∙ c.if-not-has_room.true))) refl refl refl (λ x there. there) (λ w starts. starts)
 
 pub returns-then-not-has_room-clause-room : goal.returns-then-not-has_room-clause-room
 returns-then-not-has_room-clause-room c _ =
@@ -139,8 +150,44 @@ place-requires-clause-along c =
     let l = (goal.at.place-requires-clause-along c).After-load-word in
     can_place (a l).standing c.load-word.new.seat.me.0.seen (a l).space.words (along_still (a l).standing (a l).seat.me c.load-word.new.seat.me (a l).space (a l).space (ap (λ (m : Sat). m.0.seen) (told l).2) refl (a l).along)
 
+-- the header of the replica that was just placed
+blank_header : (h : Header) (o : Object) (place name : ℕ) → h ≡ record { raw = o.raw; kind = o.kind; len = length o.fields }
+    → h ≡ record { raw = (blank_replica name place o).object.raw; kind = (blank_replica name place o).object.kind; len = length (blank_replica name place o).object.fields }
+blank_header h o place name is = is ∙ (λ i. record { raw = o.raw; kind = o.kind; len = sym (length-replicate (length o.fields) (first_value o.raw)) i })
+
+pub place-requires-clause-knows : goal.place-requires-clause-knows
+place-requires-clause-knows c =
+    let l = (goal.at.place-requires-clause-knows c).After-load-word in
+    let h : Header = c.of_word-header.result in
+    let o : Object = (told l).0 in
+    let blank = blank_replica (a l).wanted (new_end (its (t l))) o in
+    let fits : object_words h.len ≤ free_in (a l).space = (let f = c.has_room.ensures.0 c.if-not-has_room.false in let n = c.len.ensures in omega arith) in
+    let went = placed l h c.of_word-header.ensures fits in
+    let is : c.load-word.new.seat.me.0.theirs ≡ placed_one (a l).wanted o (t l) = theirs_is (a l).seat.me c.load-word.new.seat.me (placed_one (a l).wanted o (t l)) went in
+    let seen : c.load-word.new.seat.me.0.seen ≡ (a l).seat.me.0.seen = ap (λ (m : Sat). m.0.seen) went in
+    let header = blank_header h o (new_end (its (t l))) (a l).wanted (same_header l h c.of_word-header.ensures) in
+    let long : length blank.object.fields ≡ h.len = sym (ap (λ (g : Header). g.len) header) in
+    subst (λ (z : List ℕ × Theirs). ∥ ((new : List ℕ) × (before : Theirs) × Follows (a l).standing z.0 new × KnowsBefore (a l).standing z.0 new before z.1 (a l).wanted c.word.result) ∥₁) (λ i. (sym seen i, sym is i))
+    (∥∥₁_elim (a l).along (hlevel props) (λ follows. ∥∥₁_elim (a l).knows (hlevel props) (λ k. ∣ (
+      (a l).space.words,
+      t l,
+      follows,
+      record {
+        knows = k;
+        from = refl;
+        none = λ r there same. unnamed (its (t l)) (a l).wanted (none l) (subst (λ x. In x (map (λ (r : Replica). r.original) (t l).replicas)) same (in_map (λ (r : Replica). r.original) r (t l).replicas there));
+        replica = blank;
+        there = in_right blank (t l).replicas (blank ∷ []) (inl refl);
+        original = refl;
+        header = c.word.ensures.read_back ∙ ap (λ (g : Header). Some g) header;
+        room = (let s = (a l).sized.1 in let e = (a l).shaped.end_high in omega arith);
+        low = (let w = low (a l) c.requires.wanted in omega arith);
+        high = old_high (t l) (a l).loose;
+      },
+    ) ∣₁)))
+
 pub index_mut-requires : goal.index_mut-requires
-index_mut-requires c = let l = low c.args.self.now c.requires.wanted in let n = c.args.self.now.claimed.long in omega arith
+index_mut-requires c = let l = low c.args.self.now c.requires.wanted in let n = c.args.self.now.claimed.long in omega (arith, c.half.ensures)
 
 -- only raw objects are filled
 fills_raw : (raw : Bool) (len : ℕ) → ((if raw then len else 0) ≡ 0 → ⊥) → raw ≡ true
@@ -177,34 +224,36 @@ invariant_of-self-2 c =
           (λ there. absurd (unnamed (its (t l)) (a l).wanted (none l) (subst (λ x. In x (map (λ (r : Replica). r.original) (t l).replicas)) e (in_map (λ (r : Replica). r.original) q (t l).replicas there))))
           (λ blank. sym (ap (λ (r : Replica). r.object.raw) blank) ∙ fills_raw o.raw (length o.fields) (λ z. n (sym tf ∙ z)))
           (in_push q (blank_replica (a l).wanted (new_end (its (t l))) o) (t l).replicas (subst (In q) (ap (λ (y : Theirs). y.replicas) is) k));
-      claimed = subst (λ (z : ℕ × Theirs). Claims (slice_set (a l).claims.items (a l).wanted z.0) z.1) (λ i. (place i, sym is i)) (claims_placed (a l).claims.items (t l) (a l).wanted o (a l).claimed (none l) (let w = low (a l) c.requires.wanted in omega arith));
+      claimed = subst (λ (z : (ℕ × ℕ) × Theirs). Claims (slice_set (a l).claims.items z.0.0 z.0.1) z.1) (λ i. ((sym c.half.ensures i, place i), sym is i)) (claims_placed (a l).claims.items (t l) (a l).wanted o (a l).claimed (none l) (own (a l) c.requires.wanted));
       loose = loose_seen c.load-word.new.seat.me c.place.new.seat.me _ c.place.ensures.seen (loose l);
       along = along_placed (a l).standing c.place.new.standing c.load-word.new.seat.me.0.seen c.place.new.seat.me.0.seen (a l).space c.set_link.new.self h c.word.result (a l).wanted space c.word.ensures.word c.word.ensures.read_back c.place.ensures.along
           (along_still (a l).standing (a l).seat.me c.load-word.new.seat.me (a l).space (a l).space (ap (λ (m : Sat). m.0.seen) went) refl (a l).along);
+      knows = subst (λ (z : SpaceWords × Theirs). ∥ Knows c.place.new.standing c.place.new.seat.me.0.seen z.0.words z.1 ∥₁) (λ i. (sym space i, sym is i))
+          (∥∥₁_elim (c.place.ensures.placed (a l).space.words (t l) (subst (λ ws. ∥ Follows (a l).standing ws (a l).space.words ∥₁) (sym (ap (λ (m : Sat). m.0.seen) went)) (a l).along)
+          (subst (λ ws. ∥ Knows (a l).standing ws (a l).space.words (t l) ∥₁) (sym (ap (λ (m : Sat). m.0.seen) went)) (a l).knows)) (hlevel props) (λ p.
+          ∣ placed_knows p.walked c.place.new.standing c.place.new.seat.me.0.seen (a l).space h c.word.result (a l).wanted o (t l) (mem (a l)) can c.place-at.ensures.closed (a l).loose p.rows p.knows p.placed c.word.ensures.read_back header ∣₁));
       spared = still_spared (a l) c.set_link.new.self.size (ap (λ (x : SpaceWords). x.size) space);
     }
 
 pub returns-clause-seat : goal.returns-clause-seat
 returns-clause-seat c =
     let l = (goal.at.returns-clause-seat c).After-load-word in
-    keeps_seen (a l).seat.me c.load-word.new.seat.me c.place.new.seat.me _ c.place.ensures.seen (keeps_seat (a l).seat.me c.load-word.new.seat.me (placed_one (a l).wanted (told l).0 (t l)) (placed l c.of_word-header.result c.of_word-header.ensures (let f = c.has_room.ensures.0 c.if-not-has_room.false in let n = c.len.ensures in omega arith)) refl refl refl)
+    keeps_seen (a l).seat.me c.load-word.new.seat.me c.place.new.seat.me _ c.place.ensures.seen (keeps_seat (a l).seat.me c.load-word.new.seat.me (placed_one (a l).wanted (told l).0 (t l)) (placed l c.of_word-header.result c.of_word-header.ensures (let f = c.has_room.ensures.0 c.if-not-has_room.false in let n = c.len.ensures in omega arith)) refl refl refl (placed_keeps (t l) (a l).wanted (told l).0) (λ w. placed_starts (a l).seat.me.0.mine (t l) (a l).wanted (told l).0 ((told l).5 w)))
 
 pub returns-clause-nears : goal.returns-clause-nears
 returns-clause-nears c _ =
     let l = (goal.at.returns-clause-nears c).After-load-word in
-    let went = placed l c.of_word-header.result c.of_word-header.ensures (let f = c.has_room.ensures.0 c.if-not-has_room.false in let n = c.len.ensures in omega arith) in
-    nears_seen (a l).seat.me c.load-word.new.seat.me c.place.new.seat.me _ c.place.ensures.seen (λ writes. nears_by (a l).seat.me c.load-word.new.seat.me (placed_one (a l).wanted (told l).0 (t l)) went (placed_nears _ (t l) (a l).wanted (told l).0 ((told l).4 writes)) writes)
-
--- the place of the replica is no 0
-pub returns-clause-claims : goal.returns-clause-claims
-returns-clause-claims c =
-    let a = c.args.self.now in
-    let l = low a c.requires.wanted in
-    claims_grown a.claims.items a.wanted c.place-at.result.0 (λ z. let e = c.place-at.ensures.at in let s = a.shaped.end_low in omega arith) (let n = a.claimed.long in omega arith)
+    let h = c.of_word-header.result in
+    let header : h ≡ record { raw = (told l).0.raw; kind = (told l).0.kind; len = length (told l).0.fields } = same_header l h c.of_word-header.ensures in
+    let fits : object_words h.len ≤ free_in (a l).space = (let f = c.has_room.ensures.0 c.if-not-has_room.false in let n = c.len.ensures in omega arith) in
+    let went = placed l h c.of_word-header.ensures fits in
+    let room = room_told (t l) (a l).space (length (told l).0.fields) (mem (a l)) (let n = ap (λ (x : Header). x.len) header in omega arith) in
+    nears_seen (a l).seat.me c.load-word.new.seat.me c.place.new.seat.me _ c.place.ensures.seen (nears_placed (a l).seat.me c.load-word.new.seat.me (a l).wanted (told l).0 went (a l).loose (told l).4 room)
 
 pub returns-clause-placed : goal.returns-clause-placed
 returns-clause-placed c _ =
-    let a = c.args.self.now in
-    let l = low a c.requires.wanted in
-    let at = claim_grown a.claims.items a.wanted c.place-at.result.0 (let n = a.claimed.long in omega arith) in
-    λ z. let e = c.place-at.ensures.at in let s = a.shaped.end_low in omega arith
+    let l = (goal.at.returns-clause-placed c).After-load-word in
+    let u : Theirs = placed_one (a l).wanted (told l).0 (t l) in
+    let went = placed l c.of_word-header.result c.of_word-header.ensures (let f = c.has_room.ensures.0 c.if-not-has_room.false in let n = c.len.ensures in omega arith) in
+    let is : c.place.new.seat.me.0.theirs ≡ u = theirs_seen c.load-word.new.seat.me c.place.new.seat.me _ c.place.ensures.seen ∙ theirs_is (a l).seat.me c.load-word.new.seat.me u went in
+    subst (λ (y : Theirs). IsSome (replica_of (its y) (a l).wanted)) (sym is) (placed_there (t l) (a l).wanted (told l).0)

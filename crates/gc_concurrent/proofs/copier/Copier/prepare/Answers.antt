@@ -1,5 +1,17 @@
 -- Each claim is 0, as no object has a replica, and the standing checker has seen nothing of the new space.
-use Rattle.std.proofs.Common.{ap, sym, subst, arith}
+use Rattle.std.proofs.Common.{◌≡◌, ◌⊎◌, ⊎_elim, ℕ, ◌≤◌, false, true≢false, List, Result, Ok, Err, ap, sym, ◌∙◌, subst, arith}
+use Rattle.std.specs.Prelude.{OnOk, is_err}
+use Rattle.std.specs.Ordering.{nat_cmp, ord_max}
+use Rattle.std.proofs.lemmas.Grind.{common_steps}
+use Rattle.std.proofs.Math.Logic.{∥∥₁_elim}
+use Rattle.std.proofs.Props.{props}
+use Rattle.gc_words.specs.Space.{SpaceWords}
+use Rattle.gc_monitor.specs.Events.{Freed}
+use Rattle.gc_concurrent.specs.Ends.{Theirs}
+use Rattle.gc_concurrent.specs.Internal.Rule.{begun_anew}
+use Rattle.gc_concurrent.specs.Internal.Knowing.{Knows}
+use Rattle.gc_concurrent.proofs.Knowing.{dropped_knows}
+use Rattle.gc_concurrent.proofs.Known.{has_room, is_found}
 use Rattle.gc_words.specs.Space.{empty_space}
 use Rattle.gc_monitor.specs.Tables.{Tables}
 use Rattle.gc_concurrent.specs.Internal.Rule.{Sat}
@@ -34,3 +46,32 @@ invariant_of-self-2-clause-along c =
     (subst (λ (t : Tables). ∥ Follows t a.seat.me.0.seen a.space.words ∥₁) (sym c.reserve-reserved.ensures.tables)
     (through a.standing (record a.standing { room = c.reserve-reserved.new.self.room }) a.seat.me.0.seen a.seat.me.0.seen a.space.words a.space.words
     (roomy_follows a.standing c.reserve-reserved.new.self.room a.seat.me.0.seen a.space.words) a.along)))
+
+max_high : (a b m : ℕ) → m ≡ ord_max nat_cmp a b → (a ≤ m) × (b ≤ m)
+max_high a b m e = grind (arith, common_steps)
+
+-- what a call that did not fail says
+of_ok : {A E : Type 0} (r : Result A E) (P : Type 0) → OnOk r P → is_err r ≡ false → P
+of_ok (Ok a) P h e = h
+of_ok (Err w) P h e = absurd (true≢false e)
+
+pub invariant_of-self-2-clause-knows : goal.invariant_of-self-2-clause-knows
+invariant_of-self-2-clause-knows c =
+    let a = c.args.self.now in
+    let t = a.seat.me.0.theirs in
+    let room : ℕ = c.reserve-reserved.new.self.room in
+    let went = c.compare_exchange.ensures.2.0 in
+    let tables : c.reserve-reserved.new.self ≡ record a.standing { room = room } = c.reserve-reserved.ensures.tables in
+    let found : c.dropped.new.self.lost ≡ false = c.dropped.ensures.stays (ap (λ (t : Tables). t.lost) tables ∙ is_found a) in
+    let more : (a.standing.room ≡ 0) ⊎ (c.max.result ≤ room) = of_ok c.reserve-reserved.result _ c.reserve-reserved.ensures.room (sym c.is_err.ensures.value ∙ c.if-is_err.false) in
+    let old = old_low t a.loose in
+    let has = (has_room a).0 in
+    let size = a.sized.0 in
+    let enough : c.max.result ≤ room = ⊎_elim (λ z. absurd (omega arith)) (λ l. l) more in
+    let largest = max_high c.args.size a.size c.max.result c.max.ensures in
+    let first = largest.0 in
+    let second = largest.1 in
+    subst (λ (z : List ℕ × (List ℕ × Theirs)). ∥ Knows c.dropped.new.self z.0 z.1.0 z.1.1 ∥₁)
+    (λ i. (sym (ap (λ (m : Sat). m.0.seen) went) i, (sym (ap (λ (s : SpaceWords). s.words) c.in_ok-space.ensures.empty) i, sym (ap (λ (m : Sat). m.0.theirs) went ∙ ap (λ n. begun_anew n t) c.from.ensures) i)))
+    (∥∥₁_elim a.knows (hlevel props) (λ k.
+    ∣ dropped_knows a.standing c.dropped.new.self room a.seat.me.0.seen a.space.words t t.base t.old c.args.size found (subst (λ z. Freed z c.dropped.new.self) tables (c.dropped.ensures.freed found)) (omega arith) (omega arith) k ∣₁))

@@ -17,14 +17,19 @@ use Rattle.gc_concurrent.specs.declared.copier.Copier.{Copier}
 use Rattle.gc_concurrent.specs.Ends.{Theirs}
 use Rattle.gc_concurrent.specs.Internal.Rule.{Sat, Loose, scanned, brought, wants, after_read, lacks, read_as, passed}
 use Rattle.gc_concurrent.specs.Ends.{its}
-use Rattle.gc_concurrent.specs.Internal.Copiers.{Claims, moved_by}
+use Rattle.gc_concurrent.specs.Moves.{half}
+use Rattle.gc_concurrent.specs.Internal.Copiers.{Claims, HasOwnHalf, moved_by}
 use Rattle.gc_concurrent.proofs.TiedCells.{tied, tied_words}
 use Rattle.gc_concurrent.proofs.Copying.{scans_at}
 use Rattle.gc_concurrent.proofs.Placing.{passes}
-use Rattle.gc_concurrent.proofs.Memory.{end_is, near, field_word_moved, old_high, scan_low, target_bound, lacks_not, lacks_so, moves_so, claims_kept, claims_as, claim_low, written_same}
+use Rattle.gc_concurrent.proofs.Halves.{target_own}
+use Rattle.gc_concurrent.proofs.Memory.{end_is, near, field_word_moved, old_high, scan_low, brought_keeps, brought_starts, lacks_not, lacks_so, moves_so, claims_kept, claims_as, claim_low, written_same}
 use Rattle.gc_concurrent.proofs.InHand.{mem, still_shaped, still_sized, still_same, still_spared, word_fits, at_scan, scan_left, scan_over, header_there, keeps_seat, theirs_is, copies_is}
 use Rattle.gc_concurrent.proofs.Nearing.{nears_by, scan_within, passed_nears, scanned_nears, wants_nears}
 use Rattle.gc_concurrent.specs.Internal.Following.{Follows}
+use Rattle.gc_concurrent.specs.Internal.Knowing.{Brings, Compared, Knows}
+use Rattle.gc_concurrent.proofs.Knowing.{passed_brings, scanned_brings, wants_brings}
+use Rattle.gc_concurrent.proofs.Known.{has_passed, is_found, its_origin, knows_compared, knows_kept}
 use Rattle.gc_concurrent.proofs.Comparing.{theirs_seen, copies_seen, keeps_seen, nears_seen, loose_seen, along_still, along_written, can_compare, field_again, word_there}
 use Rattle.gc_concurrent.proofs.copier.Copier.scan_one.Goals as goal
 use Rattle.gc_concurrent.proofs.copier.Copier.scan_one.Goals.{After-load-word}
@@ -71,6 +76,8 @@ invariant_of-self c =
       claimed = subst (Claims a.claims.items) (sym is) (claims_as a.claims.items t u refl refl a.claimed);
       loose = c.load.ensures.2.1 copies;
       along = along_still a.standing a.seat.me c.load.new.seat.me a.space c.header-header.new.self (ap (λ (m : Sat). m.0.seen) went) c.header-header.ensures.same a.along;
+      knows = knows_kept a.standing a.seat.me c.load.new.seat.me a.space c.header-header.new.self u (ap (λ (m : Sat). m.0.seen) went) c.header-header.ensures.same is
+          (passed_brings t s.replica a.loose s.there (s.place_is ∙ sym a.scans.0) (scan_over a c.requires.low c.header-header.result c.header-header.ensures.value (c.is_scanned.ensures.done c.if-is_scanned.true))) a.knows;
       spared = still_spared a c.header-header.new.self.size (ap (λ (x : SpaceWords). x.size) c.header-header.ensures.same);
     }
 
@@ -90,7 +97,7 @@ returns-then-is_scanned-clause-seat c =
     let a = c.args.self.now in
     let s = at_scan a c.requires.low in
     keeps_seat a.seat.me c.load.new.seat.me (passed s.replica a.seat.me.0.theirs)
-    (c.load.ensures.2.0 s.replica s.there (s.place_is ∙ sym a.scans.0) (scan_over a c.requires.low c.header-header.result c.header-header.ensures.value (c.is_scanned.ensures.done c.if-is_scanned.true))) refl refl refl
+    (c.load.ensures.2.0 s.replica s.there (s.place_is ∙ sym a.scans.0) (scan_over a c.requires.low c.header-header.result c.header-header.ensures.value (c.is_scanned.ensures.done c.if-is_scanned.true))) refl refl refl (λ x there. there) (λ w starts. starts)
 
 -- ---- a field
 
@@ -148,8 +155,8 @@ module _ (c : After-load-word) where
   loose : ∥ Loose c.load-word.new.seat.me.0.theirs ∥₁
   loose = c.load-word.ensures.2.1 (copies_is a.seat.me c.load-word.new.seat.me (after_read (scanned q.original t.scan_field v) (lacks (its t) v) t) told.1 a.copies)
 
-  bound : (x : ℕ) → v ≡ Ref x → x + 2 ≤ t.old
-  bound x is = target_bound t v (scanned q.original t.scan_field v) a.loose
+  own : (x : ℕ) → v ≡ Ref x → HasOwnHalf t x
+  own x is = target_own t v (scanned q.original t.scan_field v) a.loose
       (subst (λ (y : Theirs). ∥ Loose y ∥₁) (theirs_is a.seat.me c.load-word.new.seat.me (after_read (scanned q.original t.scan_field v) (lacks (its t) v) t) told.1) loose) x is
 
 pub moved_word-requires-clause-value : goal.moved_word-requires-clause-value
@@ -157,7 +164,7 @@ moved_word-requires-clause-value c = (told (goal.at.moved_word-requires-clause-v
 
 pub moved_word-requires-clause-inside : goal.moved_word-requires-clause-inside
 moved_word-requires-clause-inside c x is =
-    let b = bound (goal.at.moved_word-requires-clause-inside c).After-load-word x is in
+    let b = (own (goal.at.moved_word-requires-clause-inside c).After-load-word x is).near in
     let n = ap (length {A = ℕ}) c.as_slice.ensures.value in let m = c.args.self.now.claimed.long in omega arith
 
 pub moved_word-requires-clause-places : goal.moved_word-requires-clause-places
@@ -179,8 +186,8 @@ set_field-requires-clause-fits c =
     let l = (goal.at.set_field-requires-clause-fits c).After-load-word in
     let plain = (c.is_scanned.ensures.left c.if-is_scanned.false).0 in
     let word : IsWordOfField false (a l).space.words c.in-Ok.moved = field_word_moved false (a l).claims.items (t l) (a l).space c.load-word.result c.in-Ok.moved (mem (a l)) (a l).claimed (told l).0
-    (c.in-Ok.ensures.moved ∙ ap (λ (r : List ℕ). moved_by r (v l)) c.as_slice.ensures.value) (λ _. c.in-Ok.ensures.value) (bound l)
-    (subst (λ (r : List ℕ). (x : ℕ) → v l ≡ Ref x → slice_index r x ≢ 0) c.as_slice.ensures.value c.in-Ok.ensures.placed) in
+    (c.in-Ok.ensures.moved ∙ ap (λ (r : List ℕ). moved_by r (v l)) c.as_slice.ensures.value) (λ _. c.in-Ok.ensures.value) (own l)
+    (subst (λ (r : List ℕ). (x : ℕ) → v l ≡ Ref x → slice_index r (half x) ≢ 0) c.as_slice.ensures.value c.in-Ok.ensures.placed) in
     word_fits (a l).space.words (a l).scan_place c.in-Ok.moved c.header-header.result c.header-header.ensures.value (subst (λ b. IsWordOfField b (a l).space.words c.in-Ok.moved) (sym plain) word)
     c.link.new.self (ap (λ (x : SpaceWords). x.words) (still l))
 
@@ -192,15 +199,15 @@ follows c nl = (told c).1 ∙ (λ i. (record (a c).seat.me.0 { theirs = after_re
 wanting : (c : After-load-word) (x : ℕ) → lacks (its (t c)) (v c) ≡ Some x → c.load-word.new.seat.me ≡ (record (a c).seat.me.0 { theirs = wants x (t c) }, (a c).seat.me.1)
 wanting c x is = (told c).1 ∙ (λ i. (record (a c).seat.me.0 { theirs = after_read (scanned (q c).original (t c).scan_field (v c)) (is i) (t c) }, (a c).seat.me.1))
 
-none_lacks : (c : After-load-word) (row : List ℕ) → row ≡ (a c).claims.items → ((x : ℕ) → v c ≡ Ref x → slice_index row x ≢ 0) → (lacks (its (t c)) (v c) ≡ None) × (moved (its (t c)) (v c) ≡ moved_by row (v c))
+none_lacks : (c : After-load-word) (row : List ℕ) → row ≡ (a c).claims.items → ((x : ℕ) → v c ≡ Ref x → slice_index row (half x) ≢ 0) → (lacks (its (t c)) (v c) ≡ None) × (moved (its (t c)) (v c) ≡ moved_by row (v c))
 none_lacks c row e ne =
-    let ne' = subst (λ (r : List ℕ). (x : ℕ) → v c ≡ Ref x → slice_index r x ≢ 0) e ne in (
-      lacks_not (a c).claims.items (t c) (v c) (a c).claimed (bound c) ne',
-      moves_so (a c).claims.items (t c) (v c) (a c).claimed (bound c) ne' ∙ ap (λ (r : List ℕ). moved_by r (v c)) (sym e),
+    let ne' = subst (λ (r : List ℕ). (x : ℕ) → v c ≡ Ref x → slice_index r (half x) ≢ 0) e ne in (
+      lacks_not (a c).claims.items (t c) (v c) (a c).claimed (own c) ne',
+      moves_so (a c).claims.items (t c) (v c) (a c).claimed (own c) ne' ∙ ap (λ (r : List ℕ). moved_by r (v c)) (sym e),
     )
 
-one_lacks : (c : After-load-word) (row : List ℕ) (x : ℕ) → row ≡ (a c).claims.items → v c ≡ Ref x → slice_index row x ≡ 0 → lacks (its (t c)) (v c) ≡ Some x
-one_lacks c row x e is zero = lacks_so (a c).claims.items (t c) (v c) x (a c).loose (a c).claimed (let b = bound c x is in omega arith) is (ap (λ (r : List ℕ). slice_index r x) (sym e) ∙ zero)
+one_lacks : (c : After-load-word) (row : List ℕ) (x : ℕ) → row ≡ (a c).claims.items → v c ≡ Ref x → slice_index row (half x) ≡ 0 → lacks (its (t c)) (v c) ≡ Some x
+one_lacks c row x e is zero = lacks_so (a c).claims.items (t c) (v c) x (a c).loose (a c).claimed (own c x is) is (ap (λ (r : List ℕ). slice_index r (half x)) (sym e) ∙ zero)
 
 pub field-written-requires : goal.field-written-requires
 field-written-requires c =
@@ -221,6 +228,24 @@ compare-requires-clause-along c =
     can_compare (a l).standing c.load-word.new.seat.me.0.seen (a l).space.words (a l).scan_place c.word.result
     (word_there (a l).space.words (a l).scan_place c.word.result c.header-header.result (a l).shaped.walked c.header-header.ensures.value c.word.ensures.word)
     (along_still (a l).standing (a l).seat.me c.load-word.new.seat.me (a l).space (a l).space (ap (λ (m : Sat). m.0.seen) (told l).1) refl (a l).along)
+
+pub compare-requires-clause-found : goal.compare-requires-clause-found
+compare-requires-clause-found c = is_found c.args.self.now
+
+pub compare-requires-clause-passed : goal.compare-requires-clause-passed
+compare-requires-clause-passed c =
+    let l = (goal.at.compare-requires-clause-passed c).After-load-word in
+    let s = at_scan (a l) c.requires.low in
+    has_passed (a l) s.replica (a l).scan_field (a l).scan_place c.word.result s.there s.place_is (let m = (left l).1 in let e = (a l).scans.1 in omega arith)
+    (word_there (a l).space.words (a l).scan_place c.word.result c.header-header.result (a l).shaped.walked c.header-header.ensures.value c.word.ensures.word)
+
+pub compare-requires-clause-low : goal.compare-requires-clause-low
+compare-requires-clause-low c =
+    let l = (goal.at.compare-requires-clause-low c).After-load-word in
+    let s = at_scan (a l) c.requires.low in
+    let e = its_origin (a l) s.replica (a l).scan_place s.there s.place_is in
+    let n = near (t l) (a l).loose s.replica s.there in
+    let o = (a l).sized.0 in let m = (left l).1 in let f = (a l).scans.1 in omega arith
 
 pub invariant_of-self-in-Ok : goal.invariant_of-self-in-Ok
 invariant_of-self-in-Ok c =
@@ -254,6 +279,15 @@ invariant_of-self-in-Ok c =
           (a l).scan_place (a l).scan_field c.word.result c.in-Ok.moved c.field-written.result (a l).shaped (there_field) (c.set_field.ensures.words ∙ ap (λ (s : SpaceWords). with_field_at s (a l).scan_place (a l).scan_field c.in-Ok.moved) (still l)) c.field-written.ensures.same
           c.field-written.ensures.value (word_there (a l).space.words (a l).scan_place c.word.result c.header-header.result (a l).shaped.walked c.header-header.ensures.value c.word.ensures.word)
           (λ ws. subst (λ z. slice_index ws (a l).scan_place ≡ c.word.result → field_place (a l).scan_place (a l).scan_field < length ws → ∥ Follows (a l).standing z ws ∥₁ → ∥ Follows c.compare.new.standing c.compare.new.seat.me.0.seen (slice_set ws (field_place (a l).scan_place (a l).scan_field) c.field-written.result) ∥₁) (ap (λ (m : Sat). m.0.seen) went) (c.compare.ensures.along ws)) (a l).along;
+      knows = subst (λ (y : Theirs). ∥ Knows c.compare.new.standing c.compare.new.seat.me.0.seen c.field-written.new.self.words y ∥₁) (sym is)
+          (knows_compared (a l) c.compare.new.standing c.compare.new.seat.me.0.seen c.set_field.new.self c.field-written.new.self s.replica (a l).scan_place (a l).scan_field c.word.result c.in-Ok.moved c.field-written.result u
+          s.there s.place_is (let m = (left l).1 in let e = (a l).scans.1 in omega arith)
+          (word_there (a l).space.words (a l).scan_place c.word.result c.header-header.result (a l).shaped.walked c.header-header.ensures.value c.word.ensures.word)
+          there_field (c.set_field.ensures.words ∙ ap (λ (s : SpaceWords). with_field_at s (a l).scan_place (a l).scan_field c.in-Ok.moved) (still l)) c.field-written.ensures.same c.field-written.ensures.value
+          (subst (λ z. slice_index (a l).space.words (a l).scan_place ≡ c.word.result → field_place (a l).scan_place (a l).scan_field < length (a l).space.words → ∥ Follows (a l).standing z (a l).space.words ∥₁
+          → ∥ Compared (a l).scan_place (a l).scan_field (a l).standing c.compare.new.standing z c.compare.new.seat.me.0.seen (slice_set (a l).space.words (field_place (a l).scan_place (a l).scan_field) c.field-written.result) ∥₁)
+          (ap (λ (m : Sat). m.0.seen) went) (c.compare.ensures.compared (a l).space.words))
+          (subst (λ (z : ℕ × ℕ). Brings (λ p. p ≡ field_place z.0 z.1) (t l) u) (λ n. (s.place_is n, (a l).scans.1 n)) (scanned_brings (t l) s.replica (v l) (s.place_is ∙ sym (a l).scans.0))));
       spared = still_spared (a l) c.field-written.new.self.size (ap (λ (x : SpaceWords). x.size) space);
     }
 
@@ -274,24 +308,25 @@ invariant_of-self-in-Err c =
       scans = (ap (λ (y : Theirs). y.scan_place) is ∙ (a l).scans.0, ap (λ (y : Theirs). y.scan_field) is ∙ (a l).scans.1);
       dues = (ap (λ (y : Theirs). y.due) is ∙ (a l).dues.0, (a l).dues.1, (a l).dues.2);
       wants = ap (λ (y : Theirs). y.wanted) is;
-      aimed = λ _. (c.requires.filled, ap (λ (r : List ℕ). slice_index r x) (sym c.as_slice.ensures.value) ∙ c.in-Err.ensures.wanted.1);
+      aimed = λ _. (c.requires.filled, ap (λ (r : List ℕ). slice_index r (half x)) (sym c.as_slice.ensures.value) ∙ c.in-Err.ensures.wanted.1);
       fills = λ q k e n. absurd (n c.requires.filled);
       claimed = subst (Claims (a l).claims.items) (sym is) (claims_as (a l).claims.items (t l) u refl refl (a l).claimed);
       loose = loose l;
       along = along_still (a l).standing (a l).seat.me c.load-word.new.seat.me (a l).space c.link.new.self (ap (λ (m : Sat). m.0.seen) went) (still l) (a l).along;
+      knows = knows_kept (a l).standing (a l).seat.me c.load-word.new.seat.me (a l).space c.link.new.self u (ap (λ (m : Sat). m.0.seen) went) (still l) is (wants_brings x (t l)) (a l).knows;
       spared = still_spared (a l) c.link.new.self.size (ap (λ (x : SpaceWords). x.size) (still l));
     }
 
 pub returns-in-Ok-clause-seat : goal.returns-in-Ok-clause-seat
 returns-in-Ok-clause-seat c =
     let l = (goal.at.returns-in-Ok-clause-seat c).After-load-word in
-    keeps_seen (a l).seat.me c.load-word.new.seat.me c.compare.new.seat.me _ c.compare.ensures.seen (keeps_seat (a l).seat.me c.load-word.new.seat.me (scanned (q l).original (t l).scan_field (v l) (t l)) (follows l (none_lacks l c.as_slice.result.now c.as_slice.ensures.value c.in-Ok.ensures.placed).0) refl refl refl)
+    keeps_seen (a l).seat.me c.load-word.new.seat.me c.compare.new.seat.me _ c.compare.ensures.seen (keeps_seat (a l).seat.me c.load-word.new.seat.me (scanned (q l).original (t l).scan_field (v l) (t l)) (follows l (none_lacks l c.as_slice.result.now c.as_slice.ensures.value c.in-Ok.ensures.placed).0) refl refl refl (brought_keeps (t l) (q l).original (t l).scan_field (v l)) (λ w. brought_starts (a l).seat.me.0.mine (t l) (q l).original (t l).scan_field (v l)))
 
 pub returns-in-Err-clause-seat : goal.returns-in-Err-clause-seat
 returns-in-Err-clause-seat c =
     let l = (goal.at.returns-in-Err-clause-seat c).After-load-word in
     let x : ℕ = c.in-Err.target.0 in
-    keeps_seat (a l).seat.me c.load-word.new.seat.me (wants x (t l)) (wanting l x (one_lacks l c.as_slice.result.now x c.as_slice.ensures.value c.in-Err.ensures.wanted.0 c.in-Err.ensures.wanted.1)) refl refl refl
+    keeps_seat (a l).seat.me c.load-word.new.seat.me (wants x (t l)) (wanting l x (one_lacks l c.as_slice.result.now x c.as_slice.ensures.value c.in-Err.ensures.wanted.0 c.in-Err.ensures.wanted.1)) refl refl refl (λ y there. there) (λ w starts. starts)
 
 pub returns-then-is_scanned-clause-nears : goal.returns-then-is_scanned-clause-nears
 returns-then-is_scanned-clause-nears c =
@@ -301,18 +336,18 @@ returns-then-is_scanned-clause-nears c =
     let at = s.place_is ∙ sym a.scans.0 in
     nears_by a.seat.me c.load.new.seat.me (passed s.replica t)
     (c.load.ensures.2.0 s.replica s.there at (scan_over a c.requires.low c.header-header.result c.header-header.ensures.value (c.is_scanned.ensures.done c.if-is_scanned.true)))
-    (passed_nears _ t s.replica (scan_low t a.space (mem a) a.loose (let e = a.scans.0 in let l = c.requires.low in omega arith) s.replica s.there at) (scan_within t a.loose s.replica s.there at))
+    (λ end. passed_nears end t s.replica (scan_low t a.space (mem a) a.loose (let e = a.scans.0 in let l = c.requires.low in omega arith) s.replica s.there at) (scan_within t a.loose s.replica s.there at))
 
 pub returns-in-Ok-clause-nears : goal.returns-in-Ok-clause-nears
 returns-in-Ok-clause-nears c =
     let l = (goal.at.returns-in-Ok-clause-nears c).After-load-word in
     let s = at_scan (a l) c.requires.low in
     nears_seen (a l).seat.me c.load-word.new.seat.me c.compare.new.seat.me _ c.compare.ensures.seen (nears_by (a l).seat.me c.load-word.new.seat.me (scanned (q l).original (t l).scan_field (v l) (t l)) (follows l (none_lacks l c.as_slice.result.now c.as_slice.ensures.value c.in-Ok.ensures.placed).0)
-    (scanned_nears _ (t l) (q l).original (v l) (length (q l).object.fields) (left l).1 (scan_within (t l) (a l).loose (q l) s.there (s.place_is ∙ sym (a l).scans.0))))
+    (λ end. scanned_nears end (t l) (q l).original (v l) (length (q l).object.fields) (left l).1 (scan_within (t l) (a l).loose (q l) s.there (s.place_is ∙ sym (a l).scans.0))))
 
 pub returns-in-Err-clause-nears : goal.returns-in-Err-clause-nears
 returns-in-Err-clause-nears c =
     let l = (goal.at.returns-in-Err-clause-nears c).After-load-word in
     let x : ℕ = c.in-Err.target.0 in
     nears_by (a l).seat.me c.load-word.new.seat.me (wants x (t l)) (wanting l x (one_lacks l c.as_slice.result.now x c.as_slice.ensures.value c.in-Err.ensures.wanted.0 c.in-Err.ensures.wanted.1))
-    (wants_nears _ x (t l) ((a l).wants ∙ ap (λ b. if b then (a l).wanted ∷ [] else []) c.requires.clear))
+    (λ end. wants_nears end x (t l) ((a l).wants ∙ ap (λ b. if b then (a l).wanted ∷ [] else []) c.requires.clear))

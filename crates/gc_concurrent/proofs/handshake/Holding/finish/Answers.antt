@@ -1,5 +1,5 @@
 -- A collection with nothing left to do, whose roots have replicas, is ready: its flip fails only for lack of memory.
-use Rattle.std.proofs.Common.{◌≡◌, ◌<◌, Result, Ok, Err, true, true≢false, sym, ◌∙◌, ◌⊎◌, map, subst, inl, inr, ⊎_elim}
+use Rattle.std.proofs.Common.{◌≡◌, ◌<◌, Result, Ok, Err, Bool, ap, true, false, true≢false, sym, ◌∙◌, ◌⊎◌, map, subst, inl, inr, ⊎_elim}
 use Rattle.std.specs.Prelude.{IfErr}
 use Rattle.gc_concurrent.specs.declared.handshake.Unflipped.{Unflipped}
 use Rattle.gc_concurrent.specs.declared.held.Held.{Held}
@@ -12,8 +12,10 @@ use Rattle.gc_words.specs.Word.{value_of}
 use Rattle.gc_heap.specs.Heap.{HeapWords, graph_in}
 use Rattle.gc_model.specs.State.{new_graph}
 use Rattle.gc_concurrent.specs.declared.handshake.Collector.{Collector}
-use Rattle.gc_concurrent.specs.Checking.{CertifiesFlip, FlippedBy, IsVouchedBy, flip_shown}
-use Rattle.gc_concurrent.specs.Ends.{its}
+use Rattle.gc_concurrent.specs.Checking.{CertifiesFlip, FlippedBy, IsVouchedBy, IsVouchedFor, flip_shown}
+use Rattle.gc_concurrent.specs.Ends.{Theirs, its}
+use Rattle.gc_concurrent.specs.Turns.{IfAsked, TurnsBy, after_flip, whole_is_due}
+use Rattle.gc_concurrent.specs.declared.turns.Turns.{Turns}
 use Rattle.gc_concurrent.proofs.handshake.Holding.finish.Goals as goal
 
 never_unready : {A : Type 0} (r : Result A Unflipped) (h : Held) (P : Type 0) → may_flip h ≡ true → IfErr r (λ refused. refused.why ≡ reasons.NotReady → may_flip h ≡ Rattle.std.proofs.Common.false)
@@ -37,3 +39,36 @@ flipped_by (Err e) says h old same asked certified graph = tt
 pub returns-in-Done-clause-asked : goal.returns-in-Done-clause-asked
 returns-in-Done-clause-asked g c =
     flipped_by c.flip.result (g.C.Checks.says_yes c.args.checker.now) c.work.new.self.held (heap_held c.args.self.held) (c.in-Done.ensures.heap ∙ c.loop-holding.invariant.heap) c.flip.ensures.asked c.flip.ensures.certified c.flip.ensures.graph
+
+by_some : (asked : Bool) (says : CertifiedPair → Type 0) (h : Held) (old base : HeapWords) → heap_held h ≡ old
+    → IfAsked asked (says (flip_shown (heap_held h) (known_to h.copier))) (IsVouchedBy h.copier.standing (heap_held h) base)
+    → IfAsked asked ((t : Theirs) × says (flip_shown old t)) (IsVouchedFor old base)
+by_some true says h old base same by = subst (λ z. (t : Theirs) × says (flip_shown z t)) same (known_to h.copier, by)
+by_some false says h old base same by = subst (λ z. IsVouchedFor z base) same (h.copier.standing, by)
+
+turned_by : (r : Result Collector Unflipped) (says : CertifiedPair → Type 0) (h : Held) (old : HeapWords) (before turns : Turns) → heap_held h ≡ old → turns ≡ before
+    → IfOk r (λ c. TurnsBy (says (flip_shown (heap_held h) (known_to h.copier))) (IsVouchedBy h.copier.standing (heap_held h) (known_to c.copier).base) turns c.turns)
+    → IfOk r (λ c. TurnsBy ((t : Theirs) × says (flip_shown old t)) (IsVouchedFor old (known_to c.copier).base) before c.turns)
+turned_by (Ok c) says h old before turns same kept by = record {
+  asked = by.asked;
+  turned = by.turned ∙ ap (after_flip by.asked) kept;
+  due = by.due ∙ ap whole_is_due kept;
+  by = by_some by.asked says h old (known_to c.copier).base same by.by;
+}
+turned_by (Err e) says h old before turns same kept by = tt
+
+pub returns-in-Done-clause-turns : goal.returns-in-Done-clause-turns
+returns-in-Done-clause-turns g c =
+    turned_by c.flip.result (g.C.Checks.says_yes c.args.checker.now) c.work.new.self.held (heap_held c.args.self.held) c.args.self.turns c.work.new.self.turns
+    (c.in-Done.ensures.heap ∙ c.loop-holding.invariant.heap) (c.in-Done.ensures.turns ∙ c.loop-holding.invariant.turns) c.flip.ensures.turns
+
+along_by : (r : Result Collector Unflipped) (h : Held) (old : HeapWords) (before turns : Turns) → heap_held h ≡ old → turns ≡ before
+    → IfOk r (λ c. whole_is_due turns ≡ false → IsVouchedBy h.copier.standing (heap_held h) (known_to c.copier).base)
+    → IfOk r (λ c. whole_is_due before ≡ false → IsVouchedFor old (known_to c.copier).base)
+along_by (Ok c) h old before turns same kept by = λ none. subst (λ z. IsVouchedFor z (known_to c.copier).base) same (h.copier.standing, by (ap whole_is_due kept ∙ none))
+along_by (Err e) h old before turns same kept by = tt
+
+pub returns-in-Done-clause-along : goal.returns-in-Done-clause-along
+returns-in-Done-clause-along g c =
+    along_by c.flip.result c.work.new.self.held (heap_held c.args.self.held) c.args.self.turns c.work.new.self.turns
+    (c.in-Done.ensures.heap ∙ c.loop-holding.invariant.heap) (c.in-Done.ensures.turns ∙ c.loop-holding.invariant.turns) c.flip.ensures.along

@@ -1,4 +1,4 @@
--- While it waits, the heap that was handed over stays the same.
+-- While it waits, what was handed over stays the same.
 use Rattle.std.proofs.Common.{◌≡◌}
 use Rattle.gc_concurrent.proofs.handshake.Waiting.wait.Given as goal
 

@@ -1,25 +1,34 @@
 -- Where nothing is due and each root has its replica, the new space is the mutator's next one.
-use Rattle.std.proofs.Common.{◌≡◌, ℕ, ◌<◌, true, List, [], length, slice_index, map, ap, sym, ◌∙◌, subst, inl, inr, ⊎_elim, arith}
+use Rattle.std.proofs.Common.{◌≡◌, ◌⊎◌, ℕ, ◌+◌, ◌<◌, Bool, true, false, is_some, List, [], length, slice_index, map, ap, sym, ◌∙◌, subst, inl, inr, arith}
 use Rattle.gc_graph.specs.Graph.{Ref}
 use Rattle.gc_graph.specs.Correspond.{Corresponding}
 use Rattle.gc_words.specs.Word.{value_of, word_of}
 use Rattle.gc_words.specs.Space.{SpaceWords}
 use Rattle.gc_heap.specs.Heap.{IsHeap, graph_in}
-use Rattle.gc_model.specs.State.{pairs_of}
+use Rattle.gc_model.specs.State.{new_graph, pairs_of}
 use Rattle.gc_model.specs.Steps.{scan_done}
 use Rattle.gc_concurrent.specs.declared.held.Held.{Held}
-use Rattle.gc_concurrent.specs.Ends.{one_heap}
-use Rattle.gc_concurrent.specs.Heaps.{heap_of}
+use Rattle.gc_concurrent.specs.Ends.{begun_with, one_heap}
 use Rattle.gc_concurrent.specs.Ends.{its}
-use Rattle.gc_concurrent.specs.Internal.Copiers.{AreClaimed, LacksOne, moved_by}
+use Rattle.gc_concurrent.specs.Internal.Copiers.{AreClaimed, Claims, LacksOne, moved_by}
 use Rattle.gc_concurrent.specs.Internal.Flip.{HasNothingLeft, moved_words}
-use Rattle.gc_concurrent.proofs.Memory.{claim_low}
+use Rattle.std.proofs.Math.Logic.{∥∥₁_elim}
+use Rattle.std.proofs.Props.{props}
+use Rattle.gc_concurrent.proofs.Knowing.{flipped_knows}
+use Rattle.gc_concurrent.proofs.Known.{is_found}
+use Rattle.gc_concurrent.proofs.Halves.{own_there, start_of}
+use Rattle.gc_concurrent.proofs.Memory.{claim_low, claimed, old_low}
 use Rattle.gc_concurrent.proofs.InHand.{mem}
 use Rattle.gc_concurrent.proofs.Comparing.{flipped_follows}
-use Rattle.gc_concurrent.proofs.Rooting.{near}
+use Rattle.gc_concurrent.proofs.Rooting.{near, root_own}
 use Rattle.gc_concurrent.proofs.Turn.{roots_placed, roots_moved, ready_in, root_missing}
 use Rattle.gc_concurrent.specs.Checking.{IsVouchedBy}
-use Rattle.gc_concurrent.specs.Holders.{heap_held}
+use Rattle.gc_concurrent.specs.Turns.{IfAsked}
+use Rattle.gc_concurrent.specs.Holders.{heap_held, moves_in}
+use Rattle.gc_concurrent.specs.Moves.{MovesWords}
+use Rattle.gc_concurrent.specs.Internal.Rule.{Sat}
+use Rattle.gc_concurrent.proofs.Moving.{tells_pairs}
+use Rattle.std.specs.Prelude.{◌%◌, ◌^◌}
 use Rattle.gc_concurrent.proofs.held.Held.flip.Goals as goal
 
 pub moved_roots-moved-requires-clause-inside : goal.moved_roots-moved-requires-clause-inside
@@ -40,7 +49,7 @@ returns-in-Err-clause-not_ready g c why =
     let h = c.args.self in
     let lacking = subst (λ (z : List ℕ × List ℕ). LacksOne z.0 z.1) (λ i. (c.as_slice.ensures.value i, c.as_slice-2.ensures.value i)) (c.in-Err.ensures.lacking why) in
     root_missing h.copier.seat.me.0.mine h.copier.seat.me.0.theirs h.copier.claims.items h.roots.items h.copier.claimed h.copier.loose lacking.place lacking.target lacking.within lacking.refers
-    (let n = near h lacking.place lacking.target lacking.within lacking.refers in omega arith) lacking.none
+    (root_own h lacking.place lacking.target lacking.within lacking.refers) lacking.none
 
 -- nothing is left to do
 done : (h : Held) (row roots : List ℕ) → row ≡ h.copier.claims.items → roots ≡ h.roots.items → (h.copier.seat.me.0.theirs.due ≡ []) × (scan_done (its h.copier.seat.me.0.theirs) ≡ true)
@@ -49,8 +58,8 @@ done h row roots e f idle placed = record {
   logged = h.empty.1;
   applied = idle.0;
   scanned = idle.1;
-  rooted = roots_placed h.copier.claims.items h.copier.seat.me.0.theirs h.roots.items h.copier.claimed (near h)
-      (subst (λ (z : List ℕ × List ℕ). AreClaimed z.0 z.1) (λ i. (e i, f i)) placed);
+  rooted = roots_placed h.copier.seat.me.0.theirs h.roots.items (λ k a l is.
+      ap is_some (claimed h.copier.claims.items h.copier.seat.me.0.theirs a h.copier.claimed (root_own h k a l is) (subst (λ (z : List ℕ × List ℕ). AreClaimed z.0 z.1) (λ i. (e i, f i)) placed k a l is)).1);
 }
 
 -- the moved roots
@@ -58,7 +67,7 @@ moves : (h : Held) (row roots : List ℕ) → row ≡ h.copier.claims.items → 
     → AreClaimed row roots → map (λ w. word_of (moved_by row (value_of w))) roots ≡ moved_words h.copier.seat.me.0.theirs h.roots.items
 moves h row roots e f placed =
     (λ i. map (λ w. word_of (moved_by (e i) (value_of w))) (f i))
-    ∙ roots_moved h.copier.claims.items h.copier.seat.me.0.theirs h.roots.items h.copier.claimed (near h)
+    ∙ roots_moved h.copier.claims.items h.copier.seat.me.0.theirs h.roots.items h.copier.claimed (root_own h)
     (subst (λ (z : List ℕ × List ℕ). AreClaimed z.0 z.1) (λ i. (e i, f i)) placed)
 
 pub certify-requires-clause-left : goal.certify-requires-clause-left
@@ -70,8 +79,8 @@ certify-requires-clause-moved g c =
     c.as_slice-3.ensures.value
     ∙ (c.in-Ok.ensures.moved ∙ moves c.args.self c.as_slice.result.now c.as_slice-2.result.now c.as_slice.ensures.value c.as_slice-2.ensures.value c.in-Ok.ensures.placed)
 
-pub begin-requires-clause-sound : goal.begin-requires-clause-sound
-begin-requires-clause-sound g c =
+pub begin-commander-requires-clause-sound : goal.begin-commander-requires-clause-sound
+begin-commander-requires-clause-sound g c =
     let a = c.args.self.copier in
     let moved = c.in-Ok.ensures.moved ∙ moves c.args.self c.as_slice.result.now c.as_slice-2.result.now c.as_slice.ensures.value c.as_slice-2.ensures.value c.in-Ok.ensures.placed in
     subst (λ (z : SpaceWords × List ℕ). IsHeap (one_heap z.0 z.1)) (λ i. (sym (c.take_spare.ensures.space ∙ c.certify.ensures.space) i, sym moved i)) (c.certify.ensures.told.heap a.space (mem a))
@@ -80,7 +89,7 @@ pub returns-clause-replicas : goal.returns-clause-replicas
 returns-clause-replicas g c =
     let a = c.args.self.copier in
     let moved = c.in-Ok.ensures.moved ∙ moves c.args.self c.as_slice.result.now c.as_slice-2.result.now c.as_slice.ensures.value c.as_slice-2.ensures.value c.in-Ok.ensures.placed in
-    ap graph_in (c.begin.ensures.heap ∙ (λ i. one_heap ((c.take_spare.ensures.space ∙ c.certify.ensures.space) i) (moved i))) ∙ c.certify.ensures.told.graph a.space (mem a)
+    ap graph_in (c.begin-commander.ensures.heap ∙ (λ i. one_heap ((c.take_spare.ensures.space ∙ c.certify.ensures.space) i) (moved i))) ∙ c.certify.ensures.told.graph a.space (mem a)
 
 pub returns-clause-carried : goal.returns-clause-carried
 returns-clause-carried g c =
@@ -94,18 +103,49 @@ returns-clause-ready g c =
 
 pub returns-clause-ok : goal.returns-clause-ok
 returns-clause-ok g c =
-    let a = c.args.self.copier in
-    let told = c.certify.ensures.told in (
-      pairs_of (its a.seat.me.0.theirs),
-      subst (Corresponding (pairs_of (its a.seat.me.0.theirs)) (graph_in (heap_of a.seat.me.0.mine c.args.self.roots.items))) (sym (returns-clause-replicas g c)) told.corresponding,
-    )
+    let h = c.args.self in
+    let b = c.take_spare.new.self in
+    let t = h.copier.seat.me.0.theirs in
+    let same : b.seat.me.0.theirs ≡ t = ap (λ (m : Sat). m.0.theirs) (c.take_spare.ensures.same ∙ c.certify.ensures.seen) in
+    let told = c.certify.ensures.told in
+    let moves = c.begin-commander.ensures.moves ∙ c.after_flip-moves.ensures in
+    record {
+      pairs = pairs_of (its t);
+      corresponding = subst (Corresponding (pairs_of (its t)) (graph_in (heap_held h))) (sym (returns-clause-replicas g c)) told.corresponding;
+      moves = tells_pairs b.claims.items t (subst (Claims b.claims.items) same b.claimed) h.copier.loose (graph_in (heap_held h)) (new_graph (its t) (map value_of h.roots.items)) told.corresponding
+          (λ a there. own_there h.copier.seat.me.0.mine t (h.sound).space (h.ended.1 ∙ sym h.copier.sized.0) h.starts_there a (start_of h.copier.seat.me.0.mine.space.words a there))
+          (moves_in c.begin-commander.result.0) (ap (λ (m : MovesWords). m.row) moves);
+      counted = ap (λ (m : MovesWords). m.flips) moves ∙ ap (λ (m : MovesWords). (m.flips + 1) % 2 ^ 64) c.certify.ensures.moves;
+      fresh = c.begin-commander.ensures.begun ∙ ap begun_with (sym c.begin-commander.ensures.heap);
+    }
 
-pub begin-requires-clause-along : goal.begin-requires-clause-along
-begin-requires-clause-along g c =
+pub begin-commander-requires-clause-along : goal.begin-commander-requires-clause-along
+begin-commander-requires-clause-along g c =
     let b = c.take_spare.new.self in
     flipped_follows b.standing c.flipped.new.self b.seat.me.0.seen b.space b.shaped c.flipped.ensures.lost c.flipped.ensures.flipped b.along
 
+pub begin-commander-requires-clause-knows : goal.begin-commander-requires-clause-knows
+begin-commander-requires-clause-knows g c =
+    let b = c.take_spare.new.self in
+    ∥∥₁_elim b.knows (hlevel props) (λ k.
+    ∣ flipped_knows b.standing c.flipped.new.self b.seat.me.0.seen b.space.words b.seat.me.0.theirs (one_heap b.space _) b.space.size (c.flipped.ensures.flipped (c.flipped.ensures.stays (is_found b))) b.sized.1 (old_low b.seat.me.0.theirs b.loose) k ∣₁)
+
+-- what was asked, with the heap of the mutator that goes on
+by_either : (asked : Bool) (said vouched vouched' : Type 0) → (vouched → vouched') → IfAsked asked said vouched → (vouched' ⊎ said) × IfAsked asked said vouched'
+by_either true said vouched vouched' f by = (inr by, by)
+by_either false said vouched vouched' f by = (inl (f by), f by)
+
 pub returns-clause-asked : goal.returns-clause-asked
 returns-clause-asked g c =
-    let heap = (λ i. one_heap (sym (c.take_spare.ensures.space ∙ c.certify.ensures.space) i) (c.as_slice-3.ensures.value i)) ∙ sym c.begin.ensures.heap in
-    ⊎_elim (λ v. inl (subst (IsVouchedBy c.args.self.copier.standing (heap_held c.args.self)) heap v)) (λ s. inr s) c.in_default.ensures.asked
+    let heap = (λ i. one_heap (sym (c.take_spare.ensures.space ∙ c.certify.ensures.space) i) (c.as_slice-3.ensures.value i)) ∙ sym c.begin-commander.ensures.heap in
+    (by_either c.in-Ok-certify.asked _ _ _ (subst (IsVouchedBy c.args.self.copier.standing (heap_held c.args.self)) heap) c.in-Ok-certify.ensures.asked).0
+
+pub returns-clause-turned : goal.returns-clause-turned
+returns-clause-turned g c =
+    let heap = (λ i. one_heap (sym (c.take_spare.ensures.space ∙ c.certify.ensures.space) i) (c.as_slice-3.ensures.value i)) ∙ sym c.begin-commander.ensures.heap in
+    (by_either c.in-Ok-certify.asked _ _ _ (subst (IsVouchedBy c.args.self.copier.standing (heap_held c.args.self)) heap) c.in-Ok-certify.ensures.asked).1
+
+pub invariant_of-copier : goal.invariant_of-copier
+invariant_of-copier g c =
+    let b = c.take_spare.new.self in
+    record { row = b.row; copies = b.copies; shaped = b.shaped; sized = b.sized; same = b.same; scans = b.scans; dues = b.dues; wants = b.wants; aimed = b.aimed; fills = b.fills; claimed = b.claimed; loose = b.loose; along = b.along; knows = b.knows; spared = b.spared }

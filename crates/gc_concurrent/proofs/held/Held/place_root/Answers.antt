@@ -1,21 +1,32 @@
 -- The root's target is an object of the mutator's space, and may be copied.
-use Rattle.std.proofs.Common.{◌≡◌, ℕ, ◌<◌, List, length, slice_index, refl, ap, sym, ◌∙◌, subst, arith}
+use Rattle.std.proofs.Common.{◌≡◌, ℕ, ◌<◌, List, length, is_some, slice_index, refl, ap, sym, ◌∙◌, subst, arith}
 use Rattle.gc_graph.specs.Graph.{Ref}
 use Rattle.gc_words.specs.Word.{value_of}
 use Rattle.gc_heap.specs.Heap.{HeapWords}
 use Rattle.gc_heap.proofs.Public.{read_root}
 use Rattle.gc_concurrent.specs.declared.held.Held.{Held}
 use Rattle.gc_concurrent.specs.Holders.{heap_held}
-use Rattle.gc_concurrent.proofs.Memory.{claim_low}
-use Rattle.gc_concurrent.proofs.Rooting.{near, target_kept}
+use Rattle.gc_concurrent.specs.Moves.{half}
+use Rattle.gc_concurrent.proofs.Memory.{claim_low, claimed}
+use Rattle.gc_concurrent.proofs.Rooting.{near, root_own, target_kept}
 use Rattle.gc_concurrent.proofs.held.Held.place_root.Goals as goal
 use Rattle.gc_concurrent.proofs.held.Held.place_root.Goals.{After-as_slice}
 
 -- the word that was read is that of the root
-refers : (c : After-as_slice) (a : ℕ) → value_of c.index-word.result.now ≡ Ref a → value_of (slice_index c.args.self.now.roots.items c.args.k) ≡ Ref a
-refers c a is =
+word_is : (c : After-as_slice) → value_of c.index-word.result.now ≡ value_of (slice_index c.args.self.now.roots.items c.args.k)
+word_is c =
     let h : HeapWords = heap_held c.args.self.now in
-    ap value_of (sym (read_root h h.roots c.args.k c.index-word.result.now refl c.requires.root c.index-word.ensures)) ∙ is
+    ap value_of (read_root h h.roots c.args.k c.index-word.result.now refl c.requires.root c.index-word.ensures)
+
+refers : (c : After-as_slice) (a : ℕ) → value_of c.index-word.result.now ≡ Ref a → value_of (slice_index c.args.self.now.roots.items c.args.k) ≡ Ref a
+refers c a is = sym (word_is c) ∙ is
+
+-- a target that has a claim has a replica
+pub returns-in-Ok-clause-placed : goal.returns-in-Ok-clause-placed
+returns-in-Ok-clause-placed c _ a is =
+    let h : Held = c.args.self.now in
+    let placed = c.in-Ok.ensures.placed a (word_is (goal.at.returns-in-Ok-clause-placed c).After-as_slice ∙ is) in
+    ap is_some (claimed h.copier.claims.items h.copier.seat.me.0.theirs a h.copier.claimed (root_own h c.args.k a c.requires.root is) (λ none. placed (ap (λ (row : List ℕ). slice_index row (half a)) c.as_slice.ensures.value ∙ none))).1
 
 pub moved_word-moved-requires-clause-inside : goal.moved_word-moved-requires-clause-inside
 moved_word-moved-requires-clause-inside c a is =

@@ -1,9 +1,14 @@
 -- After the last root the target of each has a replica.
-use Rattle.std.proofs.Common.{◌≡◌, ℕ, List, length, slice_index, refl, ap, ◌∙◌, subst, arith}
+use Rattle.std.proofs.Common.{◌≡◌, ℕ, List, length, slice_index, ap, ◌∙◌, subst, arith}
+use Rattle.std.specs.Prelude.{IsSome}
 use Rattle.gc_graph.specs.Graph.{Ref}
 use Rattle.gc_words.specs.Word.{value_of}
+use Rattle.gc_model.specs.State.{replica_of}
+use Rattle.gc_concurrent.specs.Ends.{its}
+use Rattle.gc_concurrent.specs.Holders.{known_to}
 use Rattle.gc_concurrent.specs.declared.held.Held.{Held}
-use Rattle.gc_concurrent.proofs.Rooting.{rooted_by, placed_next, nearer_then}
+use Rattle.gc_concurrent.proofs.Rooting.{placed_next, nearer_then}
+use Rattle.gc_concurrent.proofs.Turn.{roots_placed}
 use Rattle.gc_concurrent.proofs.held.Held.place_roots.Goals as goal
 
 pub loop-k-preserved : goal.loop-k-preserved
@@ -15,10 +20,12 @@ loop-k-preserved c =
     let true_it = c.if-not-place_root.false in
     record {
       settled = told.settled true_it;
-      placed = placed_next was.copier.claims.items now.copier.claims.items c.args.self.now.roots.items c.loop-k.k told.claims inv.placed
-          (subst (λ (roots : List ℕ). (a : ℕ) → value_of (slice_index roots c.loop-k.k) ≡ Ref a → slice_index now.copier.claims.items a ≡ 0 → ⊥) inv.roots (told.placed true_it));
+      placed = placed_next (known_to was.copier) (known_to now.copier) c.args.self.now.roots.items c.loop-k.k told.replicas inv.placed
+          (subst (λ (roots : List ℕ). (a : ℕ) → value_of (slice_index roots c.loop-k.k) ≡ Ref a → IsSome (replica_of (its (known_to now.copier)) a)) inv.roots (told.placed true_it));
       roots = told.roots ∙ inv.roots;
       heap = told.heap ∙ inv.heap;
+      moves = told.moves ∙ inv.moves;
+      since = told.since ∙ inv.since;
       nearer = nearer_then c.args.self.now was now inv.heap inv.nearer (told.nearer true_it);
       begun = record { base = told.begun.base ∙ inv.begun.base; from = told.begun.from ∙ inv.begun.from; into = told.begun.into ∙ inv.begun.into };
       row = told.row ∙ inv.row;
@@ -28,6 +35,6 @@ pub returns-clause-placed : goal.returns-clause-placed
 returns-clause-placed c _ =
     let now : Held = c.loop-k.self in
     let inv = c.loop-k.invariant in
-    rooted_by now now.copier refl
+    roots_placed (known_to now.copier) now.roots.items
     (λ k a l is. inv.placed k a (let n = ap (length {A = ℕ}) inv.roots in let e = c.len-k-end.ensures in let t = c.loop-k-test.false in omega arith)
     (subst (λ (roots : List ℕ). value_of (slice_index roots k) ≡ Ref a) inv.roots is))

@@ -1,5 +1,7 @@
 -- One seat becomes two.
-use Rattle.std.proofs.Common.{ap, sym, subst, arith}
+use Rattle.std.proofs.Common.{ℕ, List, ap, sym, subst, arith}
+use Rattle.gc_concurrent.specs.Ends.{Theirs}
+use Rattle.gc_concurrent.specs.Internal.Knowing.{Knows}
 use Rattle.gc_model.specs.Members.{In}
 use Rattle.gc_concurrent.specs.Internal.Rule.{Sat}
 use Rattle.gc_concurrent.specs.Internal.Following.{Follows}
@@ -22,3 +24,9 @@ pub invariant_of-result-3-clause-along : goal.invariant_of-result-3-clause-along
 invariant_of-result-3-clause-along c =
     let a = c.args.self.copier in
     subst (λ ws. ∥ Follows a.standing ws a.space.words ∥₁) (sym (ap (λ (m : Sat). m.0.seen) c.split_seat-seat.ensures.2)) a.along
+
+pub invariant_of-result-3-clause-knows : goal.invariant_of-result-3-clause-knows
+invariant_of-result-3-clause-knows c =
+    let a = c.args.self.copier in
+    let split = c.split_seat-seat.ensures.2 in
+    subst (λ (z : List ℕ × Theirs). ∥ Knows a.standing z.0 a.space.words z.1 ∥₁) (λ i. (sym (ap (λ (m : Sat). m.0.seen) split) i, sym (ap (λ (m : Sat). m.0.theirs) split) i)) a.knows

@@ -1,8 +1,10 @@
 -- The link is written.
 use Rattle.std.proofs.Common.{ap, sym, subst, arith}
-use Rattle.gc_words.specs.Space.{IsSpace}
+use Rattle.gc_words.specs.Space.{SpaceWords, IsSpace}
 use Rattle.gc_words.proofs.Public.{link_written}
 use Rattle.gc_concurrent.specs.Internal.Rule.{Sat}
+use Rattle.gc_concurrent.specs.Internal.Starts.{TellsStarts}
+use Rattle.gc_concurrent.proofs.Marking.{marks_linked}
 use Rattle.gc_concurrent.proofs.TiedCells.{tied, tied_words}
 use Rattle.gc_concurrent.proofs.Writing.{link_within, links_at}
 use Rattle.gc_concurrent.proofs.mutator.Mutator.set_link.Goals as goal
@@ -17,3 +19,10 @@ store-requires c =
 
 pub returns-clause-shaped : goal.returns-clause-shaped
 returns-clause-shaped c = subst IsSpace (sym (ap (λ (m : Sat). m.0.mine.space) (c.store.ensures.2 c.args.at.0 c.link_index.ensures c.requires.start))) (link_written c.args.self.now.seat.me.0.mine.space c.args.at.0 c.args.word c.requires.shaped c.requires.start).0
+
+pub invariant_of-self-clause-marked : goal.invariant_of-self-clause-marked
+invariant_of-self-clause-marked c =
+    let m = c.args.self.now in
+    let s : SpaceWords = m.seat.me.0.mine.space in
+    subst (λ (z : SpaceWords). TellsStarts m.starts.items z.words) (sym (ap (λ (x : Sat). x.0.mine.space) (c.store.ensures.2 c.args.at.0 c.link_index.ensures c.requires.start)))
+    (marks_linked m.starts.items s c.args.at.0 c.args.word c.requires.shaped c.requires.start m.marked)

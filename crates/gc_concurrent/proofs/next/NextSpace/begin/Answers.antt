@@ -4,6 +4,7 @@ use Rattle.gc_words.specs.Space.{SpaceWords}
 use Rattle.gc_heap.specs.Heap.{IsHeap}
 use Rattle.gc_concurrent.specs.Ends.{one_heap, opening_view}
 use Rattle.gc_concurrent.specs.Internal.Rule.{Sat}
+use Rattle.gc_concurrent.specs.Internal.Starts.{TellsStarts}
 use Rattle.gc_concurrent.proofs.TiedCells.{tied, tied_words}
 use Rattle.gc_concurrent.proofs.Opening.{begins_rule}
 use Rattle.gc_concurrent.proofs.next.NextSpace.begin.Goals as goal
@@ -23,3 +24,8 @@ returns-clause-view c =
 
 pub returns-clause-loose : goal.returns-clause-loose
 returns-clause-loose c = c.compare_exchange_with.ensures.2.1 (ap (λ (x : Sat). x.0.copies) (c.compare_exchange_with.ensures.2.0 c.args.roots.now refl))
+
+pub invariant_of-result-clause-marked : goal.invariant_of-result-clause-marked
+invariant_of-result-clause-marked c =
+    let m = c.self.inside.mutator in
+    subst (λ (x : Sat). TellsStarts m.starts.items x.0.mine.space.words) (sym (c.compare_exchange_with.ensures.2.0 c.args.roots.now refl)) m.marked
