@@ -24,3 +24,11 @@ flip_made = 43
 -- something is left to do before the flip
 abbrev pub not_ready : ℕ
 not_ready = 41
+
+-- no root of the frame is left for a push
+abbrev pub frame_full : ℕ
+frame_full = 28
+
+-- the frame has no value for a pop
+abbrev pub frame_empty : ℕ
+frame_empty = 29

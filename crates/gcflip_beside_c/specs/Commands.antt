@@ -36,6 +36,10 @@ pub record IsBesideCall (takes : ℕ → Type 0) (did : HeapWords → HeapWords 
 abbrev pub GetsReply : Op → (Reply → Type 0) → HeapWords → HeapWords → Type 0
 GetsReply op shown old new = (reply : Reply) × Does old op reply new × shown reply
 
+-- a call that gets a reply to which its heaps are so related, and returns the number of this reply
+abbrev pub IsBesideReply : (ℕ → Type 0) → (HeapWords → Reply → HeapWords → Type 0) → HandleStage → HandleStage → ℕ → Type 0
+IsBesideReply takes did old new answer = IsBesideCall takes (λ heap later. (reply : Reply) × did heap reply later × (answer ≡ reply_in_c reply)) old new answer
+
 -- a call that performs the command, and returns the number of its reply
 abbrev pub IsBesideCommand : (ℕ → Type 0) → Op → HandleStage → HandleStage → ℕ → Type 0
 IsBesideCommand takes op old new answer = IsBesideCall takes (GetsReply op (λ reply. answer ≡ reply_in_c reply)) old new answer

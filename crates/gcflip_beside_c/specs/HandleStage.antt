@@ -5,6 +5,7 @@ use Rattle.gc_heap.specs.Heap.{HeapWords}
 use Rattle.gc_concurrent.specs.Ends.{Theirs}
 use Rattle.gc_concurrent.specs.Holders.{heap_in, heap_held, known_to, cells_of, cells_read_by}
 use Rattle.gc_concurrent.specs.Waiters.{heap_left}
+use Rattle.gc_concurrent.specs.declared.turns.Turns.{Turns}
 use Rattle.gcflip_beside_c.specs.declared.end.End.{End}
 use Rattle.gcflip_beside_c.specs.declared.end.End.TheVariants as ends
 
@@ -39,6 +40,17 @@ cells_of_end end = None
 abbrev pub cells_at : Option End → Option TableId
 cells_at None = None
 cells_at (Some end) = cells_of_end end
+
+-- which flips of a collector ask the whole checker, and how many did
+abbrev pub turns_of_end : End → Option Turns
+turns_of_end (ends.Working c) = Some c.turns
+turns_of_end (ends.Asking a) = Some a.turns
+turns_of_end (ends.Holding h) = Some h.turns
+turns_of_end end = None
+
+abbrev pub turns_at : Option End → Option Turns
+turns_at None = None
+turns_at (Some end) = turns_of_end end
 
 -- the handle has a mutator that runs
 abbrev pub IsRunning : HandleStage → Type 0

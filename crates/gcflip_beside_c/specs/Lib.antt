@@ -1,7 +1,10 @@
 pub mod Answers
 pub mod Commands
+pub mod Bulk
 pub mod Handle
 pub mod Internal
 pub mod Opening
 pub mod Stages
 pub mod HandleStage
+pub mod Addresses
+pub mod Whole

@@ -1,5 +1,5 @@
 -- What the calls that lead from one stage to another return, and where the handle stands then.
-use Rattle.std.specs.Prelude.{◌≡◌, ◌⊎◌, ℕ, ◌+◌, ◌<◌, ◌≤◌, true, false, map, ⊤}
+use Rattle.std.specs.Prelude.{◌≡◌, ◌⊎◌, ℕ, ◌+◌, ◌<◌, ◌≤◌, true, false, map, ⊤, Option, Some}
 use Rattle.gc_check.specs.InC.{done, no_memory}
 use Rattle.gc_cert.specs.Grammar.{CertifiedPair}
 use Rattle.gc_words.specs.Certificate.{Certified}
@@ -9,11 +9,12 @@ use Rattle.gc_heap.specs.Heap.{HeapWords, graph_in}
 use Rattle.gc_model.specs.State.{new_graph}
 use Rattle.gc_model.specs.Steps.{is_ready, roots_done}
 use Rattle.gc_concurrent.specs.Ends.{Theirs, its, opening_theirs}
-use Rattle.gc_concurrent.specs.Unreachable.{CopiesNothingUnreachable}
 use Rattle.gc_concurrent.specs.Heaps.{GoesOnIn}
 use Rattle.gc_concurrent.specs.Nearing.{steps_ahead}
 use Rattle.gc_concurrent.specs.Works.{KeepsBeginning, TakesLog, WhereDone}
 use Rattle.gc_concurrent.specs.Checking.{FlippedBy, CertifiesFlip, IsVouchedFor, flip_shown}
+use Rattle.gc_concurrent.specs.Turns.{TurnsBy}
+use Rattle.gc_concurrent.specs.declared.turns.Turns.{Turns}
 use Rattle.gc_concurrent.specs.declared.copier.Work.TheVariants as work
 use Rattle.gc_in_c.specs.Answers.{closed_handle, out_of_range}
 use Rattle.gcflip_beside_c.specs.Answers.{parked_mutator, not_yet, not_ready, clean, no_room, flip_made}
@@ -46,14 +47,12 @@ outline (asks t) = asks (opening_theirs t.base t.old t.size)
 outline (holds t heap) = holds (opening_theirs t.base t.old t.size) heap
 outline s = s
 
--- the steps ahead of a collector that holds its mutator
+-- The steps ahead of a collector. Beside its mutator it does not know the end of the mutator's space, and the size of the new space is in its place.
 abbrev pub ahead : HandleStage → ℕ
+ahead (works t) = steps_ahead t.size t
+ahead (asks t) = steps_ahead t.size t
 ahead (holds t heap) = steps_ahead (end_of heap.space) t
 ahead s = 0
-
-abbrev pub IsHolding : HandleStage → Type 0
-IsHolding (holds t heap) = ⊤
-IsHolding s = ⊥
 
 -- the collector holds a mutator, and the target of each of its roots has a replica
 abbrev pub HasRootsPlaced : HandleStage → Type 0
@@ -77,7 +76,7 @@ LacksRoom s = ⊥
 -- so many steps, or fewer where nothing is left or a replica found no room
 pub record HasWorked (most : ℕ) (old new : HandleStage) (answer : ℕ) : Type 0 where
   pub stays : outline new ≡ outline old
-  pub nearer : IsHolding old → answer ≡ done → ahead new + most ≤ ahead old
+  pub nearer : answer ≡ done → ahead new + most ≤ ahead old
   pub rooted : HasRootsPlaced old → HasRootsPlaced new
   pub idle : answer ≡ clean → IsIdle new
   pub room : answer ≡ no_room → LacksRoom new
@@ -136,7 +135,6 @@ pub record IsFlip (says : CertifiedPair → Type 0) (t : Theirs) (heap : HeapWor
   pub ready : is_ready (its t) (graph_in heap) ≡ true
   pub asked : IsVouchedFor heap u.base ⊎ says (flip_shown heap t)
   pub certified : CertifiesFlip heap t
-  pub carried : CopiesNothingUnreachable t
   pub fresh : u ≡ opening_theirs u.base t.size 1
   pub graph : graph_in u.base ≡ new_graph (its t) (map value_of heap.roots)
 
@@ -177,3 +175,15 @@ FinishesHeld says (holds t heap) new answer =
     ((answer ≡ flip_made) × WorksAfter (λ u. FlippedBy says heap u.base × (u ≡ opening_theirs u.base t.size 1)) new)
     ⊎ ((answer ≡ not_ready) × (t.size < t.old) × HoldsOn (KeepsBeginning t) heap new) ⊎ ((answer ≡ no_memory) × HoldsOn (KeepsBeginning t) heap new)
 FinishesHeld says old new answer = (answer ≡ closed_handle) × (new ≡ old)
+
+-- ---- which flips ask the whole checker
+
+-- Where the collector held its mutator and works beside it now, it has flipped: the whole checker was asked if that was due. Otherwise no flip was counted.
+abbrev pub TurnsByFlip : (CertifiedPair → Type 0) → HandleStage → HandleStage → Option Turns → Option Turns → Type 0
+TurnsByFlip says (holds t heap) (works u) (Some old) (Some new) = TurnsBy (says (flip_shown heap t)) (IsVouchedFor heap u.base) old new
+TurnsByFlip says before after old new = new ≡ old
+
+-- the same after the steps that were left
+abbrev pub TurnsByFinish : (CertifiedPair → Type 0) → HandleStage → HandleStage → Option Turns → Option Turns → Type 0
+TurnsByFinish says (holds t heap) (works u) (Some old) (Some new) = TurnsBy ((s : Theirs) × says (flip_shown heap s)) (IsVouchedFor heap u.base) old new
+TurnsByFinish says before after old new = new ≡ old

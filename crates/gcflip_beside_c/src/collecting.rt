@@ -1,9 +1,10 @@
 //! The exports of the collector's end. None of them waits.
 
 ghost use Rattle.std.specs.Prelude.{◌≡◌, ◌≢◌, ◌≤◌};
+ghost use Rattle.gcflip_beside_c.specs.Addresses.{CarriesReachable, beginning_at, beginning_of_end};
 ghost use Rattle.gcflip_beside_c.specs.Internal.Stepping.{StepsOn, why_in_c};
-ghost use Rattle.gcflip_beside_c.specs.Stages.{Asks, IsBesidePrepare, PreparesSpace, TakesMutator, Goes, PlacesRoots, FlipsHeld, FinishesHeld, IsCertifiedPair, HasWorked, IsBesideWork};
-ghost use Rattle.gcflip_beside_c.specs.HandleStage.{stage, stage_of, IsCollector};
+ghost use Rattle.gcflip_beside_c.specs.Stages.{Asks, IsBesidePrepare, PreparesSpace, TakesMutator, Goes, PlacesRoots, FlipsHeld, FinishesHeld, IsCertifiedPair, HasWorked, IsBesideWork, TurnsByFinish, TurnsByFlip};
+ghost use Rattle.gcflip_beside_c.specs.HandleStage.{stage, stage_of, turns_at, turns_of_end, IsCollector};
 
 use crate::answer::{
     CLEAN, CLOSED, DONE, FLIPPED, NO_MEMORY, NO_ROOM, NOT_READY, NOT_YET, OUT_OF_RANGE,
@@ -20,7 +21,9 @@ use std::mem::replace;
 // Performs one step.
 fn step(end: &mut End) -> Work
     requires { IsCollector (stage_of end.old) }
-    ensures { StepsOn result (stage_of end.old) (stage_of end.new) }
+    ensures stages { StepsOn result (stage_of end.old) (stage_of end.new) }
+    ensures turns { turns_of_end end.new ≡ turns_of_end end.old }
+    ensures begun { beginning_of_end end.new ≡ beginning_of_end end.old }
 {
     match end {
         End::Working(collector) => collector.work(),
@@ -31,10 +34,12 @@ fn step(end: &mut End) -> Work
 }
 
 // Performs at most so many steps.
-#[tactic(auto, using(crate::proofs::Stepping::collector_still, crate::proofs::Stepping::holding_still))]
+#[tactic(auto, using(crate::proofs::Stepping::collector_still))]
 fn steps(end: &mut End, most: u32) -> u32
     requires { IsCollector (stage_of end.old) }
-    ensures { HasWorked most (stage_of end.old) (stage_of end.new) result }
+    ensures stages { HasWorked most (stage_of end.old) (stage_of end.new) result }
+    ensures turns { turns_of_end end.new ≡ turns_of_end end.old }
+    ensures begun { beginning_of_end end.new ≡ beginning_of_end end.old }
 {
     for k in 0..most {
         match step(end) {
@@ -50,7 +55,9 @@ fn steps(end: &mut End, most: u32) -> u32
 /// no collector, and 2 if `most` is 0.
 #[unsafe(no_mangle)]
 pub extern "C" fn gcflip_beside_work(collector: &mut GcflipEnd, most: u32) -> u32
-    ensures { IsBesideWork most (stage collector.old.end) (stage collector.new.end) result }
+    ensures stages { IsBesideWork most (stage collector.old.end) (stage collector.new.end) result }
+    ensures turns { turns_at collector.new.end ≡ turns_at collector.old.end }
+    ensures begun { beginning_at collector.new.end ≡ beginning_at collector.old.end }
 {
     let end = lent!(collector);
     if !end.is_collector() {
@@ -65,7 +72,8 @@ pub extern "C" fn gcflip_beside_work(collector: &mut GcflipEnd, most: u32) -> u3
 // Begins the collection anew, in a new space of this size.
 fn prepared(alloc: Global, end: &mut End, size: u32) -> u32
     requires { 1 ≤ size }
-    ensures { PreparesSpace size (stage_of end.old) (stage_of end.new) result }
+    ensures stages { PreparesSpace size (stage_of end.old) (stage_of end.new) result }
+    ensures turns { turns_of_end end.new ≡ turns_of_end end.old }
 {
     match end {
         End::Working(collector) => match collector.prepare(alloc, size) {
@@ -82,7 +90,8 @@ fn prepared(alloc: Global, end: &mut End, size: u32) -> u32
 /// allocation fails: the collection then goes on as it stands.
 #[unsafe(no_mangle)]
 pub extern "C" fn gcflip_beside_prepare(alloc: Global, collector: &mut GcflipEnd, size: u32) -> u32
-    ensures { IsBesidePrepare size (stage collector.old.end) (stage collector.new.end) result }
+    ensures stages { IsBesidePrepare size (stage collector.old.end) (stage collector.new.end) result }
+    ensures turns { turns_at collector.new.end ≡ turns_at collector.old.end }
 {
     let end = lent!(collector);
     if !end.is_collector() {
@@ -95,7 +104,8 @@ pub extern "C" fn gcflip_beside_prepare(alloc: Global, collector: &mut GcflipEnd
 }
 
 fn asked(end: End) -> (End, u32)
-    ensures { Asks (stage_of end) (stage_of result.0) result.1 }
+    ensures stages { Asks (stage_of end) (stage_of result.0) result.1 }
+    ensures turns { turns_of_end result.0 ≡ turns_of_end end }
 {
     match end {
         End::Working(collector) => match collector.ask() {
@@ -112,7 +122,8 @@ fn asked(end: End) -> (End, u32)
 /// handle has no collector.
 #[unsafe(no_mangle)]
 pub extern "C" fn gcflip_beside_ask(collector: &mut GcflipEnd) -> u32
-    ensures { Asks (stage collector.old.end) (stage collector.new.end) result }
+    ensures stages { Asks (stage collector.old.end) (stage collector.new.end) result }
+    ensures turns { turns_at collector.new.end ≡ turns_at collector.old.end }
 {
     let end = lent!(collector);
     let (next, answer) = asked(replace(end, End::Nothing));
@@ -121,7 +132,8 @@ pub extern "C" fn gcflip_beside_ask(collector: &mut GcflipEnd) -> u32
 }
 
 fn taken(end: End) -> (End, u32)
-    ensures { TakesMutator (stage_of end) (stage_of result.0) result.1 }
+    ensures stages { TakesMutator (stage_of end) (stage_of result.0) result.1 }
+    ensures turns { turns_of_end result.0 ≡ turns_of_end end }
 {
     match end {
         End::Working(collector) => (End::Working(collector), NOT_YET),
@@ -138,7 +150,8 @@ fn taken(end: End) -> (End, u32)
 /// collector.
 #[unsafe(no_mangle)]
 pub extern "C" fn gcflip_beside_take(collector: &mut GcflipEnd) -> u32
-    ensures { TakesMutator (stage collector.old.end) (stage collector.new.end) result }
+    ensures stages { TakesMutator (stage collector.old.end) (stage collector.new.end) result }
+    ensures turns { turns_at collector.new.end ≡ turns_at collector.old.end }
 {
     let end = lent!(collector);
     let (next, answer) = taken(replace(end, End::Nothing));
@@ -147,7 +160,8 @@ pub extern "C" fn gcflip_beside_take(collector: &mut GcflipEnd) -> u32
 }
 
 fn gone(end: End) -> (End, u32)
-    ensures { Goes (stage_of end) (stage_of result.0) result.1 }
+    ensures stages { Goes (stage_of end) (stage_of result.0) result.1 }
+    ensures turns { turns_of_end result.0 ≡ turns_of_end end }
 {
     match end {
         End::Working(collector) => (End::Working(collector), DONE),
@@ -160,7 +174,8 @@ fn gone(end: End) -> (End, u32)
 /// Asks no longer, and lets a mutator that has stopped go on in the same space. The collection stays open. Returns 0, or 3 if the handle has no collector.
 #[unsafe(no_mangle)]
 pub extern "C" fn gcflip_beside_go(collector: &mut GcflipEnd) -> u32
-    ensures { Goes (stage collector.old.end) (stage collector.new.end) result }
+    ensures stages { Goes (stage collector.old.end) (stage collector.new.end) result }
+    ensures turns { turns_at collector.new.end ≡ turns_at collector.old.end }
 {
     let end = lent!(collector);
     let (next, answer) = gone(replace(end, End::Nothing));
@@ -182,7 +197,9 @@ fn why(refused: NoFlip) -> u32
 
 // Gives the roots of a mutator that is held replicas of their targets.
 fn rooted(end: &mut End) -> u32
-    ensures { PlacesRoots (stage_of end.old) (stage_of end.new) result }
+    ensures stages { PlacesRoots (stage_of end.old) (stage_of end.new) result }
+    ensures turns { turns_of_end end.new ≡ turns_of_end end.old }
+    ensures begun { beginning_of_end end.new ≡ beginning_of_end end.old }
 {
     match end {
         End::Working(_) | End::Asking(_) => NOT_YET,
@@ -195,14 +212,19 @@ fn rooted(end: &mut End) -> u32
 /// collector does not hold the mutator, and 3 if the handle has no collector.
 #[unsafe(no_mangle)]
 pub extern "C" fn gcflip_beside_place_roots(collector: &mut GcflipEnd) -> u32
-    ensures { PlacesRoots (stage collector.old.end) (stage collector.new.end) result }
+    ensures stages { PlacesRoots (stage collector.old.end) (stage collector.new.end) result }
+    ensures turns { turns_at collector.new.end ≡ turns_at collector.old.end }
+    ensures begun { beginning_at collector.new.end ≡ beginning_at collector.old.end }
 {
     rooted(lent!(collector))
 }
 
+#[tactic(auto, using(crate::proofs::Vouching::turned_by_some))]
 fn flipped<C: Checks>(alloc: Global, checker: &C, end: End) -> (End, u32)
     requires { C.can_check checker.now }
-    ensures { FlipsHeld (C.says_yes checker.now) (stage_of end) (stage_of result.0) result.1 }
+    ensures stages { FlipsHeld (C.says_yes checker.now) (stage_of end) (stage_of result.0) result.1 }
+    ensures carried { CarriesReachable (stage_of end) (beginning_of_end end) (stage_of result.0) }
+    ensures turns { TurnsByFlip (C.says_yes checker.now) (stage_of end) (stage_of result.0) (turns_of_end end) (turns_of_end result.0) }
 {
     match end {
         End::Working(collector) => (End::Working(collector), NOT_YET),
@@ -220,7 +242,9 @@ fn flipped<C: Checks>(alloc: Global, checker: &C, end: End) -> (End, u32)
 /// collector does not hold the mutator, 3 if the handle has no collector, and 1 if an allocation fails. If it does not flip, nothing has changed.
 #[unsafe(no_mangle)]
 pub extern "C" fn gcflip_beside_flip(alloc: Global, collector: &mut GcflipEnd) -> u32
-    ensures { FlipsHeld IsCertifiedPair (stage collector.old.end) (stage collector.new.end) result }
+    ensures stages { FlipsHeld IsCertifiedPair (stage collector.old.end) (stage collector.new.end) result }
+    ensures carried { CarriesReachable (stage collector.old.end) (beginning_at collector.old.end) (stage collector.new.end) }
+    ensures turns { TurnsByFlip IsCertifiedPair (stage collector.old.end) (stage collector.new.end) (turns_at collector.old.end) (turns_at collector.new.end) }
 {
     let end = lent!(collector);
     let (next, answer) = flipped(alloc, &Sequential, replace(end, End::Nothing));
@@ -230,7 +254,8 @@ pub extern "C" fn gcflip_beside_flip(alloc: Global, collector: &mut GcflipEnd) -
 
 fn finished<C: Checks>(alloc: Global, checker: &C, end: End) -> (End, u32)
     requires { C.can_check checker.now }
-    ensures { FinishesHeld (C.says_yes checker.now) (stage_of end) (stage_of result.0) result.1 }
+    ensures stages { FinishesHeld (C.says_yes checker.now) (stage_of end) (stage_of result.0) result.1 }
+    ensures turns { TurnsByFinish (C.says_yes checker.now) (stage_of end) (stage_of result.0) (turns_of_end end) (turns_of_end result.0) }
 {
     match end {
         End::Working(collector) => (End::Working(collector), NOT_YET),
@@ -247,7 +272,8 @@ fn finished<C: Checks>(alloc: Global, checker: &C, end: End) -> (End, u32)
 /// collector. Returns 1 if an allocation fails. The mutator's heap is then unchanged, and the collector still holds it.
 #[unsafe(no_mangle)]
 pub extern "C" fn gcflip_beside_finish(alloc: Global, collector: &mut GcflipEnd) -> u32
-    ensures { FinishesHeld IsCertifiedPair (stage collector.old.end) (stage collector.new.end) result }
+    ensures stages { FinishesHeld IsCertifiedPair (stage collector.old.end) (stage collector.new.end) result }
+    ensures turns { TurnsByFinish IsCertifiedPair (stage collector.old.end) (stage collector.new.end) (turns_at collector.old.end) (turns_at collector.new.end) }
 {
     let end = lent!(collector);
     let (next, answer) = finished(alloc, &Sequential, replace(end, End::Nothing));

@@ -4,10 +4,13 @@ ghost use Rattle.std.specs.Prelude.{◌≡◌, ◌≢◌, ◌<◌, ◌^◌};
 ghost use Rattle.gc_check.specs.InC.{no_memory, IsRefusal};
 ghost use Rattle.gc_graph.specs.Limits.{kinds, lengths};
 ghost use Rattle.gc_graph.specs.declared.command.Op.{Op};
+ghost use Rattle.gc_graph.specs.Graph.{Nil, Num};
 ghost use Rattle.gc_heap.specs.Places.{root_at};
 ghost use Rattle.gc_concurrent.specs.Holders.{heap_in};
+ghost use Rattle.gc_concurrent.specs.Machines.{MakesPair, PutsValue};
 ghost use Rattle.gc_in_c.specs.Replies.{reply_in_c, got_in_c, number_after, view_after};
-ghost use Rattle.gcflip_beside_c.specs.Commands.{IsBesideCall, IsBesideCommand, GetsReply, field_numbered, room_in, roots_in};
+ghost use Rattle.gcflip_beside_c.specs.Addresses.{beginning_at, moves_at};
+ghost use Rattle.gcflip_beside_c.specs.Commands.{IsBesideCall, IsBesideCommand, IsBesideReply, GetsReply, field_numbered, room_in, roots_in};
 ghost use Rattle.gcflip_beside_c.specs.HandleStage.{stage, runs, cells_at};
 
 use crate::answer::{CLOSED, OUT_OF_RANGE, PARKED};
@@ -19,7 +22,7 @@ use gc_graph::Number;
 use gc_in_c::{GcflipView, of_got, of_look, of_reply, of_result};
 
 // The field with this number. No object has field 65535, which stands for all that follow.
-fn field(i: u32) -> u16
+pub(crate) fn field(i: u32) -> u16
     ensures { result ≡ field_numbered i }
 {
     if i < 65536 { i as u16 } else { 65535 }
@@ -32,6 +35,8 @@ pub extern "C" fn gcflip_beside_new(mutator: &mut GcflipEnd, d: u32, kind: u32, 
         (stage mutator.old.end) (stage mutator.new.end) result }
     ensures memory { result ≢ no_memory }
     ensures cells { cells_at mutator.new.end ≡ cells_at mutator.old.end }
+    ensures moves { moves_at mutator.new.end ≡ moves_at mutator.old.end }
+    ensures begun { beginning_at mutator.new.end ≡ beginning_at mutator.old.end }
 {
     let runner = match lent!(mutator) {
         End::Running(runner) => runner,
@@ -57,6 +62,8 @@ pub extern "C" fn gcflip_beside_new_raw(
         (stage mutator.old.end) (stage mutator.new.end) result }
     ensures memory { result ≢ no_memory }
     ensures cells { cells_at mutator.new.end ≡ cells_at mutator.old.end }
+    ensures moves { moves_at mutator.new.end ≡ moves_at mutator.old.end }
+    ensures begun { beginning_at mutator.new.end ≡ beginning_at mutator.old.end }
 {
     let runner = match lent!(mutator) {
         End::Running(runner) => runner,
@@ -76,6 +83,8 @@ pub extern "C" fn gcflip_beside_set_number(mutator: &mut GcflipEnd, d: u32, n: u
     ensures call { IsBesideCommand (λ roots. (d < roots) × (n < 2 ^ 63)) (Op.Num (root_at d) n) (stage mutator.old.end) (stage mutator.new.end) result }
     ensures memory { result ≢ no_memory }
     ensures cells { cells_at mutator.new.end ≡ cells_at mutator.old.end }
+    ensures moves { moves_at mutator.new.end ≡ moves_at mutator.old.end }
+    ensures begun { beginning_at mutator.new.end ≡ beginning_at mutator.old.end }
 {
     let runner = match lent!(mutator) {
         End::Running(runner) => runner,
@@ -95,6 +104,8 @@ pub extern "C" fn gcflip_beside_set_nil(mutator: &mut GcflipEnd, d: u32) -> u32
     ensures call { IsBesideCommand (λ roots. d < roots) (Op.Nil (root_at d)) (stage mutator.old.end) (stage mutator.new.end) result }
     ensures memory { result ≢ no_memory }
     ensures cells { cells_at mutator.new.end ≡ cells_at mutator.old.end }
+    ensures moves { moves_at mutator.new.end ≡ moves_at mutator.old.end }
+    ensures begun { beginning_at mutator.new.end ≡ beginning_at mutator.old.end }
 {
     let runner = match lent!(mutator) {
         End::Running(runner) => runner,
@@ -112,6 +123,8 @@ pub extern "C" fn gcflip_beside_copy(mutator: &mut GcflipEnd, d: u32, s: u32) ->
         (stage mutator.old.end) (stage mutator.new.end) result }
     ensures memory { result ≢ no_memory }
     ensures cells { cells_at mutator.new.end ≡ cells_at mutator.old.end }
+    ensures moves { moves_at mutator.new.end ≡ moves_at mutator.old.end }
+    ensures begun { beginning_at mutator.new.end ≡ beginning_at mutator.old.end }
 {
     let runner = match lent!(mutator) {
         End::Running(runner) => runner,
@@ -138,6 +151,8 @@ pub extern "C" fn gcflip_beside_get(
     ensures silent { IsRefusal result → number.new ≡ number.old }
     ensures memory { result ≢ no_memory }
     ensures cells { cells_at mutator.new.end ≡ cells_at mutator.old.end }
+    ensures moves { moves_at mutator.new.end ≡ moves_at mutator.old.end }
+    ensures begun { beginning_at mutator.new.end ≡ beginning_at mutator.old.end }
 {
     let runner = match lent!(mutator) {
         End::Running(runner) => runner,
@@ -156,6 +171,8 @@ pub extern "C" fn gcflip_beside_put(mutator: &mut GcflipEnd, s: u32, i: u32, t: 
     ensures call { IsBesideCommand (λ roots. (s < roots) × (t < roots)) (Op.Put (root_at s) (field_numbered i) (root_at t))
         (stage mutator.old.end) (stage mutator.new.end) result }
     ensures cells { cells_at mutator.new.end ≡ cells_at mutator.old.end }
+    ensures moves { moves_at mutator.new.end ≡ moves_at mutator.old.end }
+    ensures begun { beginning_at mutator.new.end ≡ beginning_at mutator.old.end }
 {
     let runner = match lent!(mutator) {
         End::Running(runner) => runner,
@@ -165,6 +182,75 @@ pub extern "C" fn gcflip_beside_put(mutator: &mut GcflipEnd, s: u32, i: u32, t: 
     in_range!(runner.commander, s);
     in_range!(runner.commander, t);
     of_result(runner.commander.put_root(s, field(i), t))
+}
+
+/// Writes the number `n`, which must be below 2^63, to field `i` of the object that root `s` refers to, as `gcflip_beside_put` writes a root's value. No root
+/// changes.
+#[unsafe(no_mangle)]
+pub extern "C" fn gcflip_beside_put_number(mutator: &mut GcflipEnd, s: u32, i: u32, n: u64) -> u32
+    ensures call { IsBesideReply (λ roots. (s < roots) × (n < 2 ^ 63)) (PutsValue s (field_numbered i) (Num n))
+        (stage mutator.old.end) (stage mutator.new.end) result }
+    ensures cells { cells_at mutator.new.end ≡ cells_at mutator.old.end }
+    ensures moves { moves_at mutator.new.end ≡ moves_at mutator.old.end }
+    ensures begun { beginning_at mutator.new.end ≡ beginning_at mutator.old.end }
+{
+    let runner = match lent!(mutator) {
+        End::Running(runner) => runner,
+        End::Parked(_) => return PARKED,
+        _ => return CLOSED,
+    };
+    in_range!(runner.commander, s);
+    let Some(number) = Number::new(n) else {
+        return OUT_OF_RANGE;
+    };
+    of_result(runner.commander.put_number_root(s, field(i), number))
+}
+
+/// Writes nil to field `i` of the object that root `s` refers to, as `gcflip_beside_put_number` writes a number.
+#[unsafe(no_mangle)]
+pub extern "C" fn gcflip_beside_put_nil(mutator: &mut GcflipEnd, s: u32, i: u32) -> u32
+    ensures call { IsBesideReply (λ roots. s < roots) (PutsValue s (field_numbered i) Nil) (stage mutator.old.end) (stage mutator.new.end) result }
+    ensures cells { cells_at mutator.new.end ≡ cells_at mutator.old.end }
+    ensures moves { moves_at mutator.new.end ≡ moves_at mutator.old.end }
+    ensures begun { beginning_at mutator.new.end ≡ beginning_at mutator.old.end }
+{
+    let runner = match lent!(mutator) {
+        End::Running(runner) => runner,
+        End::Parked(_) => return PARKED,
+        _ => return CLOSED,
+    };
+    in_range!(runner.commander, s);
+    of_result(runner.commander.put_nil_root(s, field(i)))
+}
+
+/// Makes an object of this kind with two fields, which take the values of roots `s` and `t`, and puts a reference to it into root `d`. Root `d` is set first, so
+/// a field filled from root `d` refers to the object itself. Both fields are logged once the collector has begun to copy.
+#[unsafe(no_mangle)]
+pub extern "C" fn gcflip_beside_new_pair(
+    mutator: &mut GcflipEnd,
+    d: u32,
+    kind: u32,
+    s: u32,
+    t: u32,
+) -> u32
+    ensures call { IsBesideReply (λ roots. (d < roots) × (s < roots) × (t < roots) × (kind < kinds)) (MakesPair d kind s t)
+        (stage mutator.old.end) (stage mutator.new.end) result }
+    ensures cells { cells_at mutator.new.end ≡ cells_at mutator.old.end }
+    ensures moves { moves_at mutator.new.end ≡ moves_at mutator.old.end }
+    ensures begun { beginning_at mutator.new.end ≡ beginning_at mutator.old.end }
+{
+    let runner = match lent!(mutator) {
+        End::Running(runner) => runner,
+        End::Parked(_) => return PARKED,
+        _ => return CLOSED,
+    };
+    in_range!(runner.commander, d);
+    in_range!(runner.commander, s);
+    in_range!(runner.commander, t);
+    if kind > 255 {
+        return OUT_OF_RANGE;
+    }
+    of_result(runner.commander.new_pair_root(d, kind as u8, s, t))
 }
 
 // Compares the values of two roots, which this command leaves as they are.
@@ -185,6 +271,8 @@ pub extern "C" fn gcflip_beside_same(mutator: &mut GcflipEnd, s: u32, t: u32) ->
         (stage mutator.old.end) (stage mutator.new.end) result }
     ensures memory { result ≢ no_memory }
     ensures cells { cells_at mutator.new.end ≡ cells_at mutator.old.end }
+    ensures moves { moves_at mutator.new.end ≡ moves_at mutator.old.end }
+    ensures begun { beginning_at mutator.new.end ≡ beginning_at mutator.old.end }
 {
     if mutator.is_empty() {
         return CLOSED;
@@ -204,6 +292,8 @@ pub extern "C" fn gcflip_beside_look(mutator: &mut GcflipEnd, s: u32, view: &mut
     ensures silent { IsRefusal result → view.new ≡ view.old }
     ensures memory { result ≢ no_memory }
     ensures cells { cells_at mutator.new.end ≡ cells_at mutator.old.end }
+    ensures moves { moves_at mutator.new.end ≡ moves_at mutator.old.end }
+    ensures begun { beginning_at mutator.new.end ≡ beginning_at mutator.old.end }
 {
     let runner = match lent!(mutator) {
         End::Running(runner) => runner,

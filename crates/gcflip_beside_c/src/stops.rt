@@ -1,5 +1,7 @@
 //! The exports by which a mutator stops at a safepoint and goes on. None of them waits.
 
+ghost use Rattle.std.specs.Prelude.{◌≡◌};
+ghost use Rattle.gcflip_beside_c.specs.Addresses.{ComesThrough, situation_at, situation_of_end};
 ghost use Rattle.gcflip_beside_c.specs.Stages.{Stops, Resumes};
 ghost use Rattle.gcflip_beside_c.specs.HandleStage.{stage, stage_of};
 
@@ -11,7 +13,8 @@ use std::mem::replace;
 
 // Stops the mutator if its collector asks for it.
 fn stopped(end: End) -> (End, u32)
-    ensures { Stops (stage_of end) (stage_of result.0) result.1 }
+    ensures stops { Stops (stage_of end) (stage_of result.0) result.1 }
+    ensures moves { situation_of_end result.0 ≡ situation_of_end end }
 {
     match end {
         End::Running(runner) => {
@@ -31,7 +34,8 @@ fn stopped(end: End) -> (End, u32)
 /// A safepoint: if the collector asks for it, the mutator stops. Returns 0 if it runs on, 12 if it has stopped, and 3 if the handle has no mutator.
 #[unsafe(no_mangle)]
 pub extern "C" fn gcflip_beside_safepoint(mutator: &mut GcflipEnd) -> u32
-    ensures { Stops (stage mutator.old.end) (stage mutator.new.end) result }
+    ensures stops { Stops (stage mutator.old.end) (stage mutator.new.end) result }
+    ensures moves { situation_at mutator.new.end ≡ situation_at mutator.old.end }
 {
     let end = lent!(mutator);
     let (next, answer) = stopped(replace(end, End::Nothing));
@@ -41,7 +45,8 @@ pub extern "C" fn gcflip_beside_safepoint(mutator: &mut GcflipEnd) -> u32
 
 // Lets the mutator go on if its collector allows it.
 fn resumed(end: End) -> (End, u32)
-    ensures { Resumes (stage_of end) (stage_of result.0) result.1 }
+    ensures resumes { Resumes (stage_of end) (stage_of result.0) result.1 }
+    ensures moves { ComesThrough (stage_of end) (situation_of_end end) (stage_of result.0) (situation_of_end result.0) }
 {
     match end {
         End::Running(runner) => (End::Running(runner), DONE),
@@ -56,7 +61,8 @@ fn resumed(end: End) -> (End, u32)
 /// Lets a mutator that has stopped go on, if its collector allows it. Returns 0 if it runs, 13 if it has to wait longer, and 3 if the handle has no mutator.
 #[unsafe(no_mangle)]
 pub extern "C" fn gcflip_beside_resume(mutator: &mut GcflipEnd) -> u32
-    ensures { Resumes (stage mutator.old.end) (stage mutator.new.end) result }
+    ensures resumes { Resumes (stage mutator.old.end) (stage mutator.new.end) result }
+    ensures moves { ComesThrough (stage mutator.old.end) (situation_at mutator.old.end) (stage mutator.new.end) (situation_at mutator.new.end) }
 {
     let end = lent!(mutator);
     let (next, answer) = resumed(replace(end, End::Nothing));

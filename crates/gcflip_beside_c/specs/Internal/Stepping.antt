@@ -6,14 +6,14 @@ use Rattle.gc_concurrent.specs.declared.held.NoFlip.TheVariants as reasons
 use Rattle.gc_concurrent.specs.declared.copier.Work.{Work}
 use Rattle.gc_concurrent.specs.declared.copier.Work.TheVariants as work
 use Rattle.gcflip_beside_c.specs.Answers.{not_ready}
-use Rattle.gcflip_beside_c.specs.Stages.{HasRootsPlaced, IsHolding, IsIdle, LacksRoom, ahead, outline}
+use Rattle.gcflip_beside_c.specs.Stages.{HasRootsPlaced, IsIdle, LacksRoom, ahead, outline}
 use Rattle.gcflip_beside_c.specs.HandleStage.{HandleStage}
 
 -- one step of a collector
 pub record StepsOn (step : Work) (old new : HandleStage) : Type 0 where
   pub stays : outline new ≡ outline old
-  -- while the mutator is held, each step lowers the number of steps ahead
-  pub nearer : IsHolding old → step ≡ work.Step → ahead new + 1 ≤ ahead old
+  -- each step lowers the number of steps ahead
+  pub nearer : step ≡ work.Step → ahead new + 1 ≤ ahead old
   pub rooted : HasRootsPlaced old → HasRootsPlaced new
   pub idle : step ≡ work.Done → IsIdle new
   pub room : step ≡ work.NoRoom → LacksRoom new

@@ -1,8 +1,10 @@
 //! What each call of the handshake does, in one thread.
 use gc_check::{CheckFault, Checks, Sequential, Yes};
-use gc_concurrent::{Collector, Holding, NoFlip, Runner, Waiting, Work, open, open_with};
+use gc_concurrent::{
+    Collector, Holding, NoFlip, Runner, Waiting, Work, open, open_checked, open_with,
+};
 use gc_graph::{Number, Op, Reply, View};
-use gc_words::{ImageRef, Pair};
+use gc_words::{ImageRef, NewAddr, OldAddr, Pair, Value};
 use std::alloc::Global;
 use std::test::Fail;
 use test_kit::commands::{get, new, num, own, put, saw};
@@ -176,7 +178,94 @@ fn a_flip_moves_extra_roots(rt: HostRuntime) -> Result<(), Fail> {
     Ok(())
 }
 
+// The objects start at 1 and 4 and end before 8. A reference from its address leads to the second one when no root does, so a flip keeps it. Afterwards
+// it starts at 1, since no root refers to the first one.
+#[test]
+fn an_object_is_reached_by_its_address(rt: HostRuntime) -> Result<(), Fail> {
+    let _named = View::Nil;
+    let alloc = rt.alloc();
+    let (mut runner, collector) = open(alloc, 64)?;
+    let heap = &mut runner.commander;
+    let nine = Number::new(9).ok_or("a number")?;
+    assert!(rt; heap.new_root(0, 3, 1) == Reply::Made);
+    assert!(rt; heap.new_root(1, 4, 2) == Reply::Made);
+    assert!(rt; heap.put_number_root(1, 1, nine) == Ok(Reply::Done));
+    assert!(rt; heap.address_root(1) == Some(OldAddr(4)));
+    assert!(rt; heap.nil_root(1) == Reply::Done);
+    assert!(rt; heap.address_root(1) == None);
+    for other in [0, 2, 3, 5, 8, 64, 4096, u32::MAX] {
+        assert!(rt; heap.refer_root(1, OldAddr(other)) == Reply::NoObject);
+        assert!(rt; heap.view_at(OldAddr(other)) == View::Nil);
+        assert!(rt; heap.field_at(OldAddr(other), 0) == None);
+    }
+    assert!(rt; heap.view_at(OldAddr(4)) == View::Obj { kind: 4, len: 2 });
+    assert!(rt; heap.field_at(OldAddr(4), 1) == Some(Value::Num(nine)));
+    assert!(rt; heap.field_at(OldAddr(4), 2) == None);
+    assert!(rt; heap.refer_root(1, OldAddr(4)) == Reply::Done);
+    assert!(rt; heap.nil_root(0) == Reply::Done);
+    let (waiting, holding) = taken(runner, collector)?;
+    let _collector = flipped(alloc, holding, 64)?;
+    let mut runner = waiting.resume().ok().ok_or("it may go on")?;
+    let heap = &mut runner.commander;
+    assert!(rt; heap.address_root(1) == Some(OldAddr(1)));
+    assert!(rt; heap.field_at(OldAddr(1), 1) == Some(Value::Num(nine)));
+    assert!(rt; heap.view_at(OldAddr(4)) == View::Nil);
+    assert!(rt; heap.refer_root(2, OldAddr(1)) == Reply::Done);
+    assert!(rt; heap.same_root(1, 2) == Reply::Yes);
+    Ok(())
+}
+
 // The object has a replica when its field is written, so the collector learns of the write by the log alone.
+/// Goes through a flip.
+fn through_a_flip(
+    alloc: Global,
+    runner: Runner,
+    collector: Collector,
+) -> Result<(Runner, Collector), Fail> {
+    let (waiting, holding) = taken(runner, collector)?;
+    let collector = flipped(alloc, holding, 64)?;
+    let runner = waiting.resume().ok().ok_or("it may go on")?;
+    Ok((runner, collector))
+}
+
+/// Where the last flip moved the objects that were at these addresses.
+fn moved(runner: &Runner, one: u32, two: u32, three: u32) -> [Option<NewAddr>; 3] {
+    [
+        runner.commander.moved(OldAddr(one)),
+        runner.commander.moved(OldAddr(two)),
+        runner.commander.moved(OldAddr(three)),
+    ]
+}
+
+#[test]
+fn each_flip_tells_its_moves(rt: HostRuntime) -> Result<(), Fail> {
+    let _named = View::Nil;
+    let alloc = rt.alloc();
+    let (mut runner, collector) = open(alloc, 64)?;
+    // An object takes two words more than it has fields, and the first one starts at 1.
+    assert!(rt; told(&mut runner, new(own(0), 3, 2)) == Some(Reply::Made));
+    assert!(rt; told(&mut runner, new(own(1), 3, 0)) == Some(Reply::Made));
+    assert!(rt; told(&mut runner, new(own(2), 3, 1)) == Some(Reply::Made));
+    assert!(rt; told(&mut runner, num(own(1), 9)) == Some(Reply::Done));
+    assert!(rt; runner.commander.flips() == 0);
+    assert!(rt; moved(&runner, 1, 5, 7) == [None, None, None]);
+    let (mut runner, collector) = through_a_flip(alloc, runner, collector)?;
+    assert!(rt; runner.commander.flips() == 1);
+    assert!(rt; moved(&runner, 1, 5, 7) == [Some(NewAddr(1)), None, Some(NewAddr(5))]);
+    assert!(rt; moved(&runner, 64, 65, u32::MAX) == [None, None, None]);
+    assert!(rt; told(&mut runner, num(own(0), 9)) == Some(Reply::Done));
+    let (runner, collector) = through_a_flip(alloc, runner, collector)?;
+    assert!(rt; runner.commander.flips() == 2);
+    assert!(rt; moved(&runner, 1, 5, 7) == [None, Some(NewAddr(1)), None]);
+    // A safepoint without a flip.
+    let (waiting, holding) = taken(runner, collector)?;
+    let _collector = holding.go();
+    let runner = waiting.wait(&rt);
+    assert!(rt; runner.commander.flips() == 2);
+    assert!(rt; moved(&runner, 1, 5, 7) == [None, Some(NewAddr(1)), None]);
+    Ok(())
+}
+
 #[test]
 fn a_write_beside_the_collector_is_in_the_new_space(rt: HostRuntime) -> Result<(), Fail> {
     let _named = View::Nil;
@@ -198,6 +287,31 @@ fn a_write_beside_the_collector_is_in_the_new_space(rt: HostRuntime) -> Result<(
     assert!(rt; told(&mut runner, put(own(0), 0, own(1))) == Some(Reply::Done));
     let (waiting, holding) = taken(runner, collector)?;
     let _collector = flipped(alloc, holding, 64)?;
+    let mut runner = waiting.resume().ok().ok_or("it may go on")?;
+    assert!(rt; told(&mut runner, get(own(2), own(0), 0)) == Some(saw(5)));
+    Ok(())
+}
+
+// Everything is copied and scanned when the mutator writes. So the collector takes it with one entry, and does not flip before it has applied that.
+#[test]
+fn a_flip_waits_for_the_last_entry(rt: HostRuntime) -> Result<(), Fail> {
+    let _named = View::Nil;
+    let alloc = rt.alloc();
+    let (mut runner, collector) = open(alloc, 64)?;
+    assert!(rt; told(&mut runner, new(own(0), 3, 1)) == Some(Reply::Made));
+    let (waiting, mut holding) = taken(runner, collector)?;
+    ready(&mut holding)?;
+    let collector = holding.go();
+    let mut runner = waiting.resume().ok().ok_or("it may go on")?;
+    assert!(rt; told(&mut runner, num(own(1), 5)) == Some(Reply::Done));
+    assert!(rt; told(&mut runner, put(own(0), 0, own(1))) == Some(Reply::Done));
+    let (waiting, holding) = taken(runner, collector)?;
+    let refused = holding
+        .flip(alloc, &Sequential)
+        .err()
+        .ok_or("an entry is due")?;
+    assert!(rt; refused.why == NoFlip::NotReady);
+    let _collector = flipped(alloc, refused.holding, 64)?;
     let mut runner = waiting.resume().ok().ok_or("it may go on")?;
     assert!(rt; told(&mut runner, get(own(2), own(0), 0)) == Some(saw(5)));
     Ok(())
@@ -251,6 +365,37 @@ fn no_flip_asks_another_checker(rt: HostRuntime) -> Result<(), Fail> {
     let mut runner = waiting.resume().ok().ok_or("it may go on")?;
     assert!(rt; runner.commander.room() == 63);
     assert!(rt; told(&mut runner, new(own(0), 3, 2)) == Some(Reply::Made));
+    Ok(())
+}
+
+// Each third flip asks the whole checker, counted from the last one that did. This one never has the memory, so such a flip is not made, and not counted. The
+// others rest on the standing checker.
+#[test]
+fn each_third_flip_asks_the_whole_checker(rt: HostRuntime) -> Result<(), Fail> {
+    let _named = View::Nil;
+    let alloc = rt.alloc();
+    let (mut runner, mut collector) = open_checked(alloc, 64, 0, 3)?;
+    assert!(rt; told(&mut runner, new(own(0), 3, 2)) == Some(Reply::Made));
+    for flip in 1..11u64 {
+        let (waiting, mut holding) = taken(runner, collector)?;
+        ready(&mut holding)?;
+        let made = if flip % 3 == 0 {
+            let refused = holding
+                .flip(alloc, &WithoutMemory)
+                .err()
+                .ok_or("the whole checker is asked")?;
+            assert!(rt; refused.why == NoFlip::NoMemory);
+            assert!(rt; refused.holding.turns.whole == (flip - 1) / 3);
+            refused.holding.flip(alloc, &Sequential)
+        } else {
+            holding.flip(alloc, &WithoutMemory)
+        };
+        collector = prepared(alloc, made.ok().ok_or("it flips")?, 64)?;
+        assert!(rt; collector.turns.whole == flip / 3);
+        assert!(rt; collector.turns.along == flip - flip / 3);
+        runner = waiting.resume().ok().ok_or("it may go on")?;
+        assert!(rt; told(&mut runner, get(own(2), own(0), 1)) == Some(Reply::Saw(View::Nil)));
+    }
     Ok(())
 }
 

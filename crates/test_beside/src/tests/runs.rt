@@ -1,7 +1,10 @@
 //! Whole runs: a mutator and a collector in two threads, beside the plain machine.
 ghost use Rattle.gc_graph.specs.Machine.{HasMutator};
 
-use gc_concurrent::{beside_collector, mutate, open};
+use gc_check::Sequential;
+use gc_concurrent::{
+    Collector, Holding, Runner, Waiting, beside_collector, mutate, open, open_checked,
+};
 use gc_graph::{NoMemory, Number, Op, Plain, Reply, Slot, View};
 use std::alloc::{AllocError, Global};
 use std::test::Fail;
@@ -100,5 +103,67 @@ fn a_run_ends_where_a_command_finds_no_room(rt: HostRuntime) -> Result<(), Fail>
         .ok()
         .ok_or("memory suffices")?;
     assert!(rt; replies.as_slice() == [Reply::Made, Reply::Done].as_slice());
+    Ok(())
+}
+
+/// The steps that a test lets a collector perform at most.
+const MOST_STEPS: u32 = 1_000_000;
+
+/// Stops the mutator, wherever the collection stands, and lets its collector take it.
+fn stopped(runner: Runner, collector: Collector) -> Result<(Waiting, Holding), Fail> {
+    let mut asking = collector.ask().ok().ok_or("the mutator runs")?;
+    let waiting = runner.stop().ok().ok_or("the mutator is asked")?;
+    for _ in 0..MOST_STEPS {
+        match asking.take() {
+            Ok(holding) => return Ok((waiting, holding)),
+            Err(still) => asking = still,
+        }
+        asking.work();
+    }
+    Err(Fail::from("the entries of a log come to an end"))
+}
+
+/// Performs the commands in one thread with the collector, which performs a step after each. Of 64 commands the 32nd is followed by a stop after which
+/// the mutator goes on in the same space, and the last by a flip.
+fn run_in_turns(
+    alloc: Global,
+    mut runner: Runner,
+    mut collector: Collector,
+    ops: &[Op],
+) -> Result<Collector, Fail> {
+    let _named = View::Nil;
+    for k in 0..ops.len() {
+        let op = ops[k];
+        let _ = runner.commander.apply(&op);
+        if k % 32 != 31 {
+            collector.work();
+            continue;
+        }
+        let (waiting, mut holding) = stopped(runner, collector)?;
+        if k % 64 == 31 {
+            let _ = holding.place_roots();
+            collector = holding.go();
+        } else {
+            let flipped = holding.finish(alloc, &Sequential);
+            collector = flipped.ok().ok_or("it flips")?;
+            collector.prepare(alloc, 512)?;
+        }
+        runner = waiting.resume().ok().ok_or("it may go on")?;
+    }
+    Ok(collector)
+}
+
+// Of 64 flips each rests on the standing checker, and where each seventh asks the whole one, the others do. The mutator writes and makes objects beside the collector.
+#[test]
+fn the_whole_checker_is_asked_only_by_turns(rt: HostRuntime) -> Result<(), Fail> {
+    let _named = View::Nil;
+    let alloc = rt.alloc();
+    let ops = commands(alloc, 4_096, 88_172_645_463_325_252)?;
+    for (each, whole) in [(0u32, 0u64), (7, 9)] {
+        let (runner, collector) = open_checked(alloc, 512, 0, each)?;
+        let collector = run_in_turns(alloc, runner, collector, ops.as_slice())?;
+        assert!(rt; collector.turns.whole == whole);
+        assert!(rt; collector.turns.along == 64 - whole);
+    }
     Ok(())
 }
