@@ -45,8 +45,9 @@
 #define LINE 64
 
 struct gcflip_thread {
-    uint32_t size, factor, least, extra_roots; /* as the heap was opened */
-    uint32_t looks;                            /* before a thread sleeps: none if both threads share a processor */
+    gcflip_beside_options options; /* as the heap was opened, with its size, */
+    uint32_t size, factor, least;  /* and with its pace */
+    uint32_t looks;                /* before a thread sleeps: none if both threads share a processor */
 
     /* the mutator's thread alone */
     gcflip_mutator mutator;
@@ -59,6 +60,13 @@ struct gcflip_thread {
     uint32_t left;       /* the free words at the last safepoint */
     bool has_waited;     /* a safepoint of this collection waited for steps */
     uint32_t used;       /* the words that were allocated while the last collection was under way, or NOTHING_KNOWN */
+    bool has_stopped;    /* at a safepoint, and has not gone on */
+    uint64_t stopped;    /* when it did */
+    void (*on_flip)(void *argument);
+    void *argument;
+    uint64_t followed;      /* the flips after which `on_flip` was called, or would have been */
+    uint64_t time_followed; /* the time that its calls took, together */
+    bool is_following;      /* it is being called */
 
     /* the collector's thread alone */
     _Alignas(LINE) gcflip_collector collector;
@@ -85,6 +93,7 @@ struct gcflip_thread {
     uint64_t wanted;     /* the steps for which the mutator waits, or NEVER */
     uint64_t last_steps; /* those of the last collection that flipped */
     gcflip_thread_counts counts;
+    gcflip_flip_checks checks;
 };
 
 /* No number of steps, and no number of words. */
@@ -159,6 +168,7 @@ static void lets_go(gcflip_thread *thread, uint32_t answer)
     pthread_mutex_lock(&thread->lock);
     thread->counts.flips += answer == GCFLIP_FLIPPED;
     if (answer == GCFLIP_FLIPPED) {
+        gcflip_beside_flip_checks(&thread->collector, &thread->checks);
         thread->last_steps = thread->steps;
         if (thread->stops > thread->counts.most_stops) {
             thread->counts.most_stops = thread->stops;
@@ -269,7 +279,7 @@ static void *run(void *argument)
 {
     gcflip_thread *thread = argument;
     bool closing = false;
-    uint32_t opened = gcflip_beside_open(&thread->mutator, &thread->collector, thread->size, thread->extra_roots);
+    uint32_t opened = gcflip_beside_open_with(&thread->mutator, &thread->collector, &thread->options);
 
     pthread_mutex_lock(&thread->lock);
     thread->opened = opened;
@@ -391,28 +401,88 @@ static void keeps_longest(gcflip_thread *thread, uint64_t waited)
     }
 }
 
-/* Waits until the mutator, which has stopped, may go on. */
-static void waits(gcflip_thread *thread)
+/* Tells the collector that the mutator has stopped. */
+static void parks(gcflip_thread *thread)
 {
-    uint64_t begun = now(), waited;
-
+    thread->has_stopped = true;
+    thread->stopped = now();
     pthread_mutex_lock(&thread->lock);
     thread->is_let_go = false;
     thread->is_parked = true;
     pthread_cond_signal(&thread->called);
-    waits_for(thread, &thread->let_go, &thread->is_let_go, true);
-    while (gcflip_beside_resume(&thread->mutator) == GCFLIP_NOT_YET) {
-        pthread_cond_wait(&thread->let_go, &thread->lock);
-    }
+    pthread_mutex_unlock(&thread->lock);
+}
+
+/* Tells the collector that the mutator goes on. The caller has the lock. */
+static void goes_on(gcflip_thread *thread)
+{
+    uint64_t waited = now() - thread->stopped;
+
+    thread->has_stopped = false;
     thread->is_parked = false;
     pthread_cond_signal(&thread->called);
     thread->safepoints = 0;
     sees_ends(thread);
-    waited = now() - begun;
     thread->counts.stops++;
     thread->counts.waited += waited;
     keeps_longest(thread, waited);
+}
+
+/* The mutator has gone on: calls the program if it went through a flip. The caller does not have the lock. */
+static void follows(gcflip_thread *thread)
+{
+    uint64_t begun, flips = gcflip_beside_flips(&thread->mutator);
+
+    if (flips == thread->followed) {
+        return;
+    }
+    thread->followed = flips;
+    if (thread->on_flip != NULL) {
+        begun = now();
+        thread->is_following = true;
+        thread->on_flip(thread->argument);
+        thread->is_following = false;
+        thread->time_followed += now() - begun;
+    }
+}
+
+/* Waits until the mutator, which has stopped, may go on. */
+static void waits(gcflip_thread *thread)
+{
+    pthread_mutex_lock(&thread->lock);
+    waits_for(thread, &thread->let_go, &thread->is_let_go, true);
+    while (gcflip_beside_resume(&thread->mutator) == GCFLIP_NOT_YET) {
+        pthread_cond_wait(&thread->let_go, &thread->lock);
+    }
+    goes_on(thread);
     pthread_mutex_unlock(&thread->lock);
+    follows(thread);
+}
+
+/* Stops the mutator if the collector asks for it, unless it has stopped already. Returns whether it has stopped. */
+static bool stops_here(gcflip_thread *thread)
+{
+    if (!thread->has_stopped && gcflip_beside_safepoint(&thread->mutator) == GCFLIP_PARKED) {
+        parks(thread);
+    }
+    return thread->has_stopped;
+}
+
+/* Lets the mutator, which has stopped, go on if the collector has let it. Returns whether it runs. */
+static bool tries_to_go_on(gcflip_thread *thread)
+{
+    bool runs;
+
+    pthread_mutex_lock(&thread->lock);
+    runs = thread->is_let_go && gcflip_beside_resume(&thread->mutator) == GCFLIP_DONE;
+    if (runs) {
+        goes_on(thread);
+    }
+    pthread_mutex_unlock(&thread->lock);
+    if (runs) {
+        follows(thread);
+    }
+    return runs;
 }
 
 /* Sleeps until `is_over`, which is asked with the lock, or until this time. Stops meanwhile whenever the collector asks for it. */
@@ -431,7 +501,7 @@ static void stands_by(gcflip_thread *thread, bool (*is_over)(const gcflip_thread
         if (over) {
             return;
         }
-        if (gcflip_beside_safepoint(&thread->mutator) == GCFLIP_PARKED) {
+        if (stops_here(thread)) {
             waits(thread);
         }
     }
@@ -443,39 +513,51 @@ static bool has_caught_up(const gcflip_thread *thread, uint64_t wanted)
     return !thread->has_called || thread->seen_ends != ends(thread) || thread->steps >= wanted;
 }
 
-/* The mutator has less room than the steps that it knows of let it have: looks how many there are now. Then lets the collector perform some more if that is
- * still too little, or all if little room is left. */
-static void falls_back(gcflip_thread *thread)
+/* Looks how many steps the collector has performed. Returns whether the mutator has less room than they let it have. The caller has the lock. */
+static bool is_ahead_of(gcflip_thread *thread, uint32_t free_words)
 {
-    uint64_t begun, before = thread->counts.waited, wanted;
-    uint32_t free_words = room(thread);
-    bool is_ahead;
-
-    pthread_mutex_lock(&thread->lock);
     sees_ends(thread);
     if (thread->has_called) {
         thread->floor = floor_after(thread, thread->steps);
     }
-    is_ahead = thread->has_called && free_words < thread->floor;
+    return thread->has_called && free_words < thread->floor;
+}
+
+/* Stands by, and counts this as a wait of a safepoint. Stops meanwhile are a part of it. */
+static void waits_counted(gcflip_thread *thread, bool (*is_over)(const gcflip_thread *thread, uint64_t argument), uint64_t argument, uint64_t longest)
+{
+    uint64_t begun = now(), before = thread->counts.waited, others = thread->time_followed, waited;
+
+    thread->has_waited = true;
+    stands_by(thread, is_over, argument, longest == NEVER ? NEVER : begun + longest);
+    waited = now() - begun - (thread->time_followed - others);
+    pthread_mutex_lock(&thread->lock);
+    thread->counts.throttled++;
+    thread->counts.waited = before + waited;
+    keeps_longest(thread, waited);
+    pthread_mutex_unlock(&thread->lock);
+}
+
+/* The mutator has less room than the steps that it knows of let it have: looks how many there are now. Then lets the collector perform some more if that is
+ * still too little, or all if little room is left. */
+static void falls_back(gcflip_thread *thread)
+{
+    uint64_t wanted;
+    uint32_t free_words = room(thread);
+    bool is_ahead;
+
+    pthread_mutex_lock(&thread->lock);
+    is_ahead = is_ahead_of(thread, free_words);
     wanted = free_words > spare(thread) / 2 ? thread->steps + MOST_STEPS_WAITED : NEVER;
     thread->wanted = is_ahead ? wanted : NEVER;
     pthread_mutex_unlock(&thread->lock);
     if (!is_ahead) {
         return;
     }
-    thread->has_waited = true;
-    begun = now();
-    stands_by(thread, has_caught_up, wanted, wanted == NEVER ? NEVER : begun + MOST_TIME_WAITED);
-    begun = now() - begun;
+    waits_counted(thread, has_caught_up, wanted, wanted == NEVER ? NEVER : MOST_TIME_WAITED);
     pthread_mutex_lock(&thread->lock);
-    sees_ends(thread);
-    if (thread->has_called) {
-        thread->floor = floor_after(thread, thread->steps);
-    }
+    is_ahead_of(thread, free_words);
     thread->wanted = NEVER;
-    thread->counts.throttled++;
-    thread->counts.waited = before + begun;
-    keeps_longest(thread, begun);
     pthread_mutex_unlock(&thread->lock);
 }
 
@@ -487,20 +569,56 @@ static void asks_for_stop(gcflip_thread *thread)
     pthread_mutex_unlock(&thread->lock);
 }
 
-uint32_t gcflip_thread_safepoint(gcflip_thread *thread)
+/* Notes a safepoint at which the mutator runs. Wakes the collector if a collection is due. Returns whether little room is left. */
+static bool passes(gcflip_thread *thread)
 {
-    thread->left = room(thread);
-    if (gcflip_beside_safepoint(&thread->mutator) == GCFLIP_PARKED) {
-        waits(thread);
-    }
     if (thread->has_called && ++thread->safepoints == SAFEPOINTS_OF_LOG) {
         asks_for_stop(thread);
     }
-    if (room(thread) < thread->floor) {
-        calls(thread);
+    if (room(thread) >= thread->floor) {
+        return false;
+    }
+    calls(thread);
+    return true;
+}
+
+uint32_t gcflip_thread_safepoint(gcflip_thread *thread)
+{
+    if (thread->is_following) {
+        return GCFLIP_DONE;
+    }
+    if (!thread->has_stopped) {
+        thread->left = room(thread);
+    }
+    if (stops_here(thread)) {
+        waits(thread);
+    }
+    if (passes(thread)) {
         falls_back(thread);
     }
     return GCFLIP_DONE;
+}
+
+uint32_t gcflip_thread_try_safepoint(gcflip_thread *thread)
+{
+    bool is_ahead;
+
+    if (thread->is_following) {
+        return GCFLIP_DONE;
+    }
+    if (!thread->has_stopped) {
+        thread->left = room(thread);
+    }
+    if (stops_here(thread) && !tries_to_go_on(thread)) {
+        return GCFLIP_PARKED;
+    }
+    if (!passes(thread)) {
+        return GCFLIP_DONE;
+    }
+    pthread_mutex_lock(&thread->lock);
+    is_ahead = is_ahead_of(thread, room(thread));
+    pthread_mutex_unlock(&thread->lock);
+    return is_ahead ? GCFLIP_NOT_YET : GCFLIP_DONE;
 }
 
 static bool has_ended(const gcflip_thread *thread, uint64_t so_far)
@@ -508,23 +626,70 @@ static bool has_ended(const gcflip_thread *thread, uint64_t so_far)
     return ends(thread) != so_far;
 }
 
-uint32_t gcflip_thread_collect(gcflip_thread *thread)
+/* Whether a collection is under way. One that has failed meanwhile is none. */
+static bool is_collecting(gcflip_thread *thread)
+{
+    pthread_mutex_lock(&thread->lock);
+    sees_ends(thread);
+    pthread_mutex_unlock(&thread->lock);
+    return thread->has_called;
+}
+
+/* Waits for the end of the collection that is under way, or of one that it calls for. Counts this as a wait of a safepoint if it is one. */
+static uint32_t ends_one(gcflip_thread *thread, bool is_counted)
 {
     uint64_t so_far, flips;
     bool has_flipped;
 
+    if (thread->has_stopped) {
+        waits(thread);
+    }
     pthread_mutex_lock(&thread->lock);
+    sees_ends(thread);
     so_far = ends(thread);
     flips = thread->counts.flips;
     pthread_mutex_unlock(&thread->lock);
     calls(thread);
     thread->has_waited = true;
-    stands_by(thread, has_ended, so_far, NEVER);
+    if (is_counted) {
+        waits_counted(thread, has_ended, so_far, NEVER);
+    } else {
+        stands_by(thread, has_ended, so_far, NEVER);
+    }
     pthread_mutex_lock(&thread->lock);
     sees_ends(thread);
     has_flipped = thread->counts.flips != flips;
     pthread_mutex_unlock(&thread->lock);
     return has_flipped ? GCFLIP_FLIPPED : GCFLIP_NO_MEMORY;
+}
+
+uint32_t gcflip_thread_collect(gcflip_thread *thread)
+{
+    return thread->is_following ? GCFLIP_NO_MEMORY : ends_one(thread, false);
+}
+
+uint32_t gcflip_thread_reserve(gcflip_thread *thread, uint32_t words)
+{
+    bool is_whole = false;
+
+    gcflip_thread_safepoint(thread);
+    while (room(thread) < words) {
+        if (is_whole || thread->is_following) {
+            return GCFLIP_FULL;
+        }
+        /* One that is under way may copy what has become garbage since it began. */
+        is_whole = !is_collecting(thread);
+        if (ends_one(thread, true) != GCFLIP_FLIPPED) {
+            return GCFLIP_NO_MEMORY;
+        }
+    }
+    return GCFLIP_DONE;
+}
+
+void gcflip_thread_on_flip(gcflip_thread *thread, void (*function)(void *argument), void *argument)
+{
+    thread->on_flip = function;
+    thread->argument = argument;
 }
 
 gcflip_mutator *gcflip_thread_mutator(gcflip_thread *thread)
@@ -536,6 +701,13 @@ void gcflip_thread_read(gcflip_thread *thread, gcflip_thread_counts *counts)
 {
     pthread_mutex_lock(&thread->lock);
     *counts = thread->counts;
+    pthread_mutex_unlock(&thread->lock);
+}
+
+void gcflip_thread_flip_checks(gcflip_thread *thread, gcflip_flip_checks *checks)
+{
+    pthread_mutex_lock(&thread->lock);
+    *checks = thread->checks;
     pthread_mutex_unlock(&thread->lock);
 }
 
@@ -605,7 +777,15 @@ static uint32_t starts(gcflip_thread *thread)
     return thread->opened;
 }
 
-uint32_t gcflip_thread_open(gcflip_thread **opened, uint32_t size, uint32_t extra_roots, const gcflip_pace *pace)
+uint32_t gcflip_thread_open(gcflip_thread **thread, uint32_t size, uint32_t extra_roots, const gcflip_pace *pace)
+{
+    gcflip_beside_options options = gcflip_beside_options_default(size);
+
+    options.extra_roots = extra_roots;
+    return gcflip_thread_open_with(thread, &options, pace);
+}
+
+uint32_t gcflip_thread_open_with(gcflip_thread **opened, const gcflip_beside_options *options, const gcflip_pace *pace)
 {
     gcflip_thread *thread;
     uint32_t answer = GCFLIP_NO_MEMORY;
@@ -618,7 +798,7 @@ uint32_t gcflip_thread_open(gcflip_thread **opened, uint32_t size, uint32_t extr
     if (thread == NULL) {
         return GCFLIP_NO_MEMORY;
     }
-    *thread = (gcflip_thread){.size = size, .factor = pace->factor, .least = pace->least, .extra_roots = extra_roots, .wanted = NEVER, .used = NOTHING_KNOWN};
+    *thread = (gcflip_thread){.options = *options, .size = options->size, .factor = pace->factor, .least = pace->least, .wanted = NEVER, .used = NOTHING_KNOWN};
     thread->looks = has_one_processor() ? 0 : LOOKS;
     if (makes_lock(thread)) {
         answer = starts(thread);

@@ -425,17 +425,18 @@ static inline hp_value hp_value_of(uint64_t number)
     return value;
 }
 
-/* Returns the value that a look or a peek saw. */
-static inline hp_value hp_seen(uint32_t answer, const gcflip_view *view)
+/* Returns the value that a call saw. An answer that tells no value goes to the hook. */
+static inline hp_value hp_seen(hp *h, gcflip_seen seen, const char *call)
 {
     hp_value value = {HP_NIL, 0, 0, 0, 0, 0};
+    uint32_t answer = hp_answered(h, seen.answer, call);
 
     if (answer == GCFLIP_NUMBER)
-        return hp_value_of(view->number);
+        return hp_value_of(seen.number);
     if (answer != GCFLIP_NIL) {
         value.type = answer == GCFLIP_OBJECT ? HP_OBJECT : HP_RAW;
-        value.kind = view->kind;
-        value.count = view->count;
+        value.kind = seen.kind;
+        value.count = seen.count;
     }
     return value;
 }
@@ -473,10 +474,7 @@ static inline void hp_copy(hp *h, hp_root d, hp_root s)
 /* Returns the value of s. */
 static inline hp_value hp_look(hp *h, hp_root s)
 {
-    gcflip_view view = {0, 0, 0};
-    uint32_t answer = hp_answered(h, gcflip_look(&h->heap, hp_operand(h, s, "hp_look"), &view), "hp_look");
-
-    return hp_seen(answer, &view);
+    return hp_seen(h, gcflip_look_seen(&h->heap, hp_operand(h, s, "hp_look")), "hp_look");
 }
 
 /* Returns whether s refers to an object of this kind. */
@@ -496,9 +494,7 @@ static inline bool hp_same(hp *h, hp_root s, hp_root t)
 /* Copies field i of s into d. Both may be the layer's own registers. */
 static inline void hp_load(hp *h, hp_root d, hp_root s, uint32_t i, const char *call)
 {
-    uint64_t number = 0;
-
-    hp_answered(h, gcflip_get(&h->heap, d, s, i, &number), call);
+    hp_answered(h, gcflip_get_seen(&h->heap, d, s, i).answer, call);
 }
 
 /* Copies field i of s into d. */
@@ -510,10 +506,7 @@ static inline void hp_get(hp *h, hp_root d, hp_root s, uint32_t i)
 /* Returns the value in field i of s, which is not raw. No root takes it. */
 static inline hp_value hp_field(hp *h, hp_root s, uint32_t i)
 {
-    gcflip_view view = {0, 0, 0};
-    uint32_t answer = hp_answered(h, gcflip_peek(&h->heap, hp_operand(h, s, "hp_field"), i, &view), "hp_field");
-
-    return hp_seen(answer, &view);
+    return hp_seen(h, gcflip_peek_seen(&h->heap, hp_operand(h, s, "hp_field"), i), "hp_field");
 }
 
 /* Gives the open collection up if a write was answered by GCFLIP_NO_MEMORY, because its log could not grow. Returns whether it did so: the write
@@ -552,11 +545,11 @@ static inline void hp_put_word(hp *h, hp_root s, uint32_t i, uint64_t word)
 /* Returns the plain number in field i of s, which is raw. */
 static inline uint64_t hp_word(hp *h, hp_root s, uint32_t i)
 {
-    gcflip_view view = {0, 0, 0};
+    gcflip_seen seen = gcflip_peek_seen(&h->heap, hp_operand(h, s, "hp_word"), i);
 
-    if (hp_answered(h, gcflip_peek(&h->heap, hp_operand(h, s, "hp_word"), i, &view), "hp_word") != GCFLIP_NUMBER)
+    if (hp_answered(h, seen.answer, "hp_word") != GCFLIP_NUMBER)
         hp_answered(h, GCFLIP_NO_NUMBER, "hp_word");
-    return view.number;
+    return seen.number;
 }
 
 /* Writes an integer into field i of s. One below HP_LEAST_INT or above HP_MOST_INT is out of range. */
@@ -572,10 +565,10 @@ static inline void hp_pay(hp *h, uint32_t kind, uint32_t count, const char *call
 {
     if (kind > 255 || count > 65535)
         hp_answered(h, GCFLIP_OUT_OF_RANGE, call);
-    hp_reserve(h, count + 2);
-    h->credit -= count + 2;
+    hp_reserve(h, gcflip_words_of(count));
+    h->credit -= gcflip_words_of(count);
     h->stats.objects++;
-    h->stats.words += count + 2;
+    h->stats.words += gcflip_words_of(count);
 }
 
 /* Makes an object with `count` fields, all nil, and puts a reference to it into d, which may be one of the layer's own registers. */
@@ -670,6 +663,26 @@ static inline int hp_bytes_compare(hp *h, hp_root s, hp_root t)
 
     hp_answered(h, gcflip_bytes_compare(&h->heap, hp_operand(h, s, "hp_bytes_compare"), hp_operand(h, t, "hp_bytes_compare"), &order), "hp_bytes_compare");
     return order;
+}
+
+/* Returns a hash of the bytes of the text in s. It depends on the seed, and on nothing else: texts with the same bytes have the same hash. */
+static inline uint64_t hp_bytes_hash(hp *h, hp_root s, uint64_t seed)
+{
+    uint32_t length = hp_count_bytes(h, s, "hp_bytes_hash"), at, i, some;
+    uint64_t hash = (seed ^ length) * 0x9e3779b97f4a7c15u, word;
+    uint8_t bytes[256];
+
+    for (at = 0; at < length; at += some) {
+        some = length - at < sizeof bytes ? length - at : (uint32_t)sizeof bytes;
+        hp_answered(h, gcflip_bytes_read(&h->heap, s, at, bytes, some), "hp_bytes_hash");
+        for (i = 0; i < some; i += 8) {
+            word = 0;
+            memcpy(&word, bytes + i, some - i < 8 ? some - i : 8);
+            hash = (hash ^ word) * 0x9e3779b97f4a7c15u;
+            hash ^= hash >> 32;
+        }
+    }
+    return hash;
 }
 
 /* Makes room for a text of `count` bytes, and counts it. */
@@ -891,13 +904,12 @@ typedef struct hp_object {
 static inline bool hp_next(hp *h, hp_object *object)
 {
     uint32_t address = object->address == 0 ? 1 : object->address + object->value.count + 2;
-    gcflip_view view = {0, 0, 0};
-    uint32_t answer = hp_answered(h, gcflip_object_at(&h->heap, address, &view), "hp_next");
+    gcflip_seen seen = gcflip_object_at_seen(&h->heap, address);
 
-    if (answer == GCFLIP_NIL)
+    if (seen.answer == GCFLIP_NIL)
         return false;
     object->address = address;
-    object->value = hp_seen(answer, &view);
+    object->value = hp_seen(h, seen, "hp_next");
     return true;
 }
 

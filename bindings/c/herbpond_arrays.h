@@ -1,4 +1,4 @@
-/* Arrays of any length in the heap of herbpond.h. NOT PROVED, as that header; tests/c/herbpond_arrays.c tests it.
+/* Arrays of any length, and vectors of 64-bit words, in the heap of herbpond.h. NOT PROVED, as that header; tests/c/herbpond_arrays.c tests it.
  *
  * An array is an object with two fields: its length, and its elements. Up to HP_PART elements are in one part. More are in parts of HP_PART elements
  * each, to which a spine refers. So a push copies at most HP_PART elements, or the references to all parts. The program chooses the array's kind, and
@@ -133,6 +133,50 @@ static inline void hp_array_push(hp *h, hp_root s, hp_root t)
         hp_array_extend(h, s, length / HP_PART);
     hp_array_write(h, s, length, t, length + 1, "hp_array_push");
     hp_put_int(h, s, HP_LENGTH, length + 1);
+}
+
+/* ---- Vectors of 64-bit words, which gcflip_heap.h describes: raw objects, of which 64 fields have 63 words. Words may be the bits of doubles */
+
+/* Makes a vector of `count` words, all 0, and puts a reference to it into d. More than GCFLIP_MOST_WORDS words are out of range. */
+static inline void hp_new_words(hp *h, hp_root d, uint32_t kind, uint32_t count)
+{
+    uint32_t fields = count > GCFLIP_MOST_WORDS ? UINT32_MAX : GCFLIP_WORD_FIELDS(count);
+
+    hp_operand(h, d, "hp_new_words");
+    hp_pay(h, kind, fields, "hp_new_words");
+    hp_answered(h, gcflip_new_raw(&h->heap, d, kind, fields), "hp_new_words");
+}
+
+/* Returns the number of words of the vector in s. */
+static inline uint32_t hp_words_length(hp *h, hp_root s)
+{
+    hp_value value = hp_look(h, s);
+    uint32_t rest = value.count % 64;
+
+    if (value.type != HP_RAW)
+        hp_answered(h, GCFLIP_NO_OBJECT, "hp_words_length");
+    return value.count / 64 * 63 + (rest > 0 ? rest - 1 : 0);
+}
+
+/* Copies `count` words of the vector in s to `words`, from word `at` on. The vector has at least at + count words. `words` may be NULL if `count` is 0. */
+static inline void hp_words_read(hp *h, hp_root s, uint32_t at, uint64_t *words, size_t count)
+{
+    uint64_t none = 0;
+
+    hp_answered(h, gcflip_words_read(&h->heap, hp_operand(h, s, "hp_words_read"), at, count == 0 ? &none : words, count), "hp_words_read");
+}
+
+/* Writes `count` words over those of the vector in s, from word `at` on. The vector has at least at + count words. `words` may be NULL if `count` is 0.
+ * Does not fail for lack of memory. */
+static inline void hp_words_write(hp *h, hp_root s, uint32_t at, const uint64_t *words, size_t count)
+{
+    const uint64_t none = 0;
+    uint32_t answer;
+
+    do
+        answer = gcflip_words_write(&h->heap, 0, hp_operand(h, s, "hp_words_write"), at, count == 0 ? &none : words, count);
+    while (hp_gave_up(h, answer));
+    hp_answered(h, answer, "hp_words_write");
 }
 
 #endif

@@ -21,6 +21,8 @@ static const struct {
     {GCFLIP_FAULTY, 9, "faulty", GCFLIP_MISMATCH},
     {GCFLIP_NOT_BEGUN, 10, "not begun", GCFLIP_MISUSE},
     {GCFLIP_DAMAGED, 11, "damaged", GCFLIP_MISUSE},
+    {GCFLIP_PARKED, 12, "parked", GCFLIP_MISMATCH},
+    {GCFLIP_NOT_YET, 13, "not yet", GCFLIP_MISMATCH},
     {GCFLIP_MADE, 16, "made", GCFLIP_OK},
     {GCFLIP_FULL, 17, "full", GCFLIP_LACK},
     {GCFLIP_NO_OBJECT, 18, "no object", GCFLIP_MISMATCH},

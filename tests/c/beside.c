@@ -1,19 +1,19 @@
 /* Each answer of the calls of gcflip_beside.h, in one thread that has both ends; extra roots over flips; a close in each order and at each stage; and each
    allocation refused in turn. Links its own allocation functions instead of the library's. */
+#include "both_ends.h"
 #include "expect.h"
 #include "gcflip_beside.h"
 #include "own_allocator.h"
 #include <stdbool.h>
 
-enum { WORDS = 256, MANY = 100000, MOST_EXTRA = 1048576 };
+enum { WORDS = 256, MOST_EXTRA = 1048576 };
 
 #define KEPT 0x5a5a5a5a5a5a5a5aull
 #define KEPT_32 0x5a5a5a5au
 
-static gcflip_mutator mutator = GCFLIP_NO_END;
-static gcflip_collector collector = GCFLIP_NO_END;
 static uint64_t number;
 static gcflip_view view;
+static gcflip_flip_checks checks;
 static uint32_t heap_words; /* the size with which the heap was opened */
 
 static void open_with(uint32_t words, uint32_t extra_roots)
@@ -21,6 +21,18 @@ static void open_with(uint32_t words, uint32_t extra_roots)
     heap_words = words;
     fail_allocation(0);
     EXPECT(gcflip_beside_open(&mutator, &collector, words, extra_roots) == GCFLIP_DONE);
+}
+
+/* Opens a heap of which each flip with this number checks both spaces whole. */
+static void open_checked(uint32_t words, uint32_t extra_roots, uint32_t whole_each)
+{
+    gcflip_beside_options options = gcflip_beside_options_default(words);
+
+    options.extra_roots = extra_roots;
+    options.whole_each = whole_each;
+    heap_words = words;
+    fail_allocation(0);
+    EXPECT(gcflip_beside_open_with(&mutator, &collector, &options) == GCFLIP_DONE);
 }
 
 static void open_both(uint32_t words)
@@ -47,15 +59,6 @@ static void expect_one(void)
 {
     EXPECT(gcflip_beside_get(&mutator, 2, 0, 1, &number) == GCFLIP_NUMBER && number == 7);
     EXPECT(gcflip_beside_look(&mutator, 0, &view) == GCFLIP_OBJECT && view.kind == 1 && view.count == 2 && view.number == 0);
-}
-
-/* Lets the collector take the mutator. */
-static void take(void)
-{
-    EXPECT(gcflip_beside_ask(&collector) == GCFLIP_DONE);
-    EXPECT(gcflip_beside_safepoint(&mutator) == GCFLIP_PARKED);
-    EXPECT(gcflip_beside_work(&collector, MANY) == GCFLIP_CLEAN);
-    EXPECT(gcflip_beside_take(&collector) == GCFLIP_DONE);
 }
 
 /* Lets the mutator go on after a flip, and makes the memory of the next one. */
@@ -95,6 +98,9 @@ static void expect_refused(uint32_t answer)
     EXPECT(gcflip_beside_copy(&mutator, 0, 1) == answer);
     EXPECT(gcflip_beside_get(&mutator, 0, 1, 0, &number) == answer);
     EXPECT(gcflip_beside_put(&mutator, 0, 0, 1) == answer);
+    EXPECT(gcflip_beside_put_number(&mutator, 0, 0, 1) == answer);
+    EXPECT(gcflip_beside_put_nil(&mutator, 0, 0) == answer);
+    EXPECT(gcflip_beside_new_pair(&mutator, 0, 1, 2, 3) == answer);
     EXPECT(gcflip_beside_same(&mutator, 0, 1) == answer);
     EXPECT(gcflip_beside_look(&mutator, 0, &view) == answer);
     /* also where an argument is out of range */
@@ -187,6 +193,13 @@ static void out_of_range(uint32_t none)
     EXPECT(gcflip_beside_get(&mutator, 0, 256, 0, &number) == GCFLIP_OUT_OF_RANGE);
     EXPECT(gcflip_beside_put(&mutator, none, 0, 0) == GCFLIP_OUT_OF_RANGE);
     EXPECT(gcflip_beside_put(&mutator, 0, 0, none) == GCFLIP_OUT_OF_RANGE);
+    EXPECT(gcflip_beside_put_number(&mutator, none, 0, 1) == GCFLIP_OUT_OF_RANGE);
+    EXPECT(gcflip_beside_put_number(&mutator, 0, 0, 1ull << 63) == GCFLIP_OUT_OF_RANGE);
+    EXPECT(gcflip_beside_put_nil(&mutator, none, 0) == GCFLIP_OUT_OF_RANGE);
+    EXPECT(gcflip_beside_new_pair(&mutator, none, 1, 0, 0) == GCFLIP_OUT_OF_RANGE);
+    EXPECT(gcflip_beside_new_pair(&mutator, 0, 256, 0, 0) == GCFLIP_OUT_OF_RANGE);
+    EXPECT(gcflip_beside_new_pair(&mutator, 0, 1, none, 0) == GCFLIP_OUT_OF_RANGE);
+    EXPECT(gcflip_beside_new_pair(&mutator, 0, 1, 0, none) == GCFLIP_OUT_OF_RANGE);
     EXPECT(gcflip_beside_same(&mutator, none, 0) == GCFLIP_OUT_OF_RANGE);
     EXPECT(gcflip_beside_same(&mutator, 0, none) == GCFLIP_OUT_OF_RANGE);
     EXPECT(gcflip_beside_look(&mutator, none, &view) == GCFLIP_OUT_OF_RANGE);
@@ -237,6 +250,86 @@ static void commands(void)
     EXPECT(gcflip_beside_new(&mutator, 10, 1, WORDS - 12) == GCFLIP_MADE);
     EXPECT(gcflip_beside_room(&mutator) == 0);
     EXPECT(gcflip_beside_new(&mutator, 11, 1, 0) == GCFLIP_FULL);
+    close_both();
+}
+
+/* Numbers and nil that no root holds, and pairs. Values are worked by hand. */
+static void values_and_pairs(void)
+{
+    open_with(16, 1);
+    expect_nil_roots(33);
+    EXPECT(gcflip_beside_set_number(&mutator, 1, 5) == GCFLIP_DONE);
+    EXPECT(gcflip_beside_new_pair(&mutator, 32, 9, 1, 2) == GCFLIP_MADE);
+    EXPECT(gcflip_beside_room(&mutator) == 15 - 4);
+    EXPECT(gcflip_beside_look(&mutator, 32, &view) == GCFLIP_OBJECT && view.kind == 9 && view.count == 2);
+    EXPECT(gcflip_beside_get(&mutator, 3, 32, 0, &number) == GCFLIP_NUMBER && number == 5);
+    EXPECT(gcflip_beside_get(&mutator, 3, 32, 1, &number) == GCFLIP_NIL);
+    /* a field that takes the value of the pair's own root refers to the pair; the other one takes the pair in root 32 */
+    EXPECT(gcflip_beside_new_pair(&mutator, 4, 255, 4, 32) == GCFLIP_MADE);
+    EXPECT(gcflip_beside_get(&mutator, 3, 4, 0, &number) == GCFLIP_OBJECT && gcflip_beside_same(&mutator, 3, 4) == GCFLIP_SAME);
+    EXPECT(gcflip_beside_get(&mutator, 3, 4, 1, &number) == GCFLIP_OBJECT && gcflip_beside_same(&mutator, 3, 32) == GCFLIP_SAME);
+    EXPECT(gcflip_beside_new_raw(&mutator, 5, 1, 2) == GCFLIP_MADE);
+    EXPECT(gcflip_beside_room(&mutator) == 15 - 4 - 4 - 4);
+    EXPECT(gcflip_beside_new_pair(&mutator, 3, 1, 1, 1) == GCFLIP_FULL);
+    EXPECT(gcflip_beside_same(&mutator, 3, 32) == GCFLIP_SAME);
+    EXPECT(gcflip_beside_put_number(&mutator, 5, 1, (1ull << 63) - 1) == GCFLIP_DONE);
+    EXPECT(gcflip_beside_get(&mutator, 6, 5, 1, &number) == GCFLIP_NUMBER && number == (1ull << 63) - 1);
+    EXPECT(gcflip_beside_put_nil(&mutator, 5, 1) == GCFLIP_NO_NUMBER);
+    EXPECT(gcflip_beside_put_nil(&mutator, 5, 2) == GCFLIP_NO_FIELD);
+    EXPECT(gcflip_beside_put_number(&mutator, 5, 2, 1) == GCFLIP_NO_FIELD);
+    EXPECT(gcflip_beside_put_number(&mutator, 4, 65536, 1) == GCFLIP_NO_FIELD);
+    EXPECT(gcflip_beside_put_nil(&mutator, 4, UINT32_MAX) == GCFLIP_NO_FIELD);
+    EXPECT(gcflip_beside_put_number(&mutator, 1, 0, 1) == GCFLIP_NO_OBJECT);
+    EXPECT(gcflip_beside_put_nil(&mutator, 2, 0) == GCFLIP_NO_OBJECT);
+    begin_to_copy();
+    EXPECT(gcflip_beside_work(&collector, MANY) == GCFLIP_CLEAN);
+    /* the collector has copied all three objects, and these writes are logged */
+    EXPECT(gcflip_beside_put_number(&mutator, 32, 1, 77) == GCFLIP_DONE);
+    EXPECT(gcflip_beside_put_nil(&mutator, 4, 1) == GCFLIP_DONE);
+    for (int flip = 0; flip < 2; flip++) {
+        collect();
+        EXPECT(gcflip_beside_get(&mutator, 3, 32, 1, &number) == GCFLIP_NUMBER && number == 77);
+        EXPECT(gcflip_beside_get(&mutator, 3, 4, 1, &number) == GCFLIP_NIL);
+        EXPECT(gcflip_beside_get(&mutator, 3, 4, 0, &number) == GCFLIP_OBJECT && gcflip_beside_same(&mutator, 3, 4) == GCFLIP_SAME);
+        EXPECT(gcflip_beside_get(&mutator, 6, 5, 1, &number) == GCFLIP_NUMBER && number == (1ull << 63) - 1);
+        EXPECT(gcflip_beside_look(&mutator, 1, &view) == GCFLIP_NUMBER && view.number == 5);
+        EXPECT(gcflip_beside_set_nil(&mutator, 3) == GCFLIP_DONE && gcflip_beside_set_nil(&mutator, 6) == GCFLIP_DONE);
+        EXPECT(gcflip_beside_room(&mutator) == 15 - 4 - 4 - 4);
+    }
+    close_both();
+}
+
+/* Pairs that are made, and values that are put, while the collector copies: with each allocation of the log refused. A pair is then not made, and no root or
+   field changes. */
+static void refused_pairs(void)
+{
+    long failures = 0;
+
+    open_both(4096);
+    make_one();
+    begin_to_copy();
+    for (uint64_t k = 0; k < 600; k++) {
+        uint32_t room = gcflip_beside_room(&mutator), answer;
+
+        fail_allocation(1);
+        answer = k % 3 == 0 ? gcflip_beside_new_pair(&mutator, 3, 2, 0, 1) : k % 3 == 1 ? gcflip_beside_put_number(&mutator, 0, 0, k) : gcflip_beside_put_nil(&mutator, 0, 0);
+        if (has_failed()) {
+            fail_allocation(0);
+            EXPECT(answer == GCFLIP_NO_MEMORY && gcflip_beside_room(&mutator) == room);
+            EXPECT(gcflip_beside_get(&mutator, 2, 0, 0, &number) == (k % 3 == 2 ? GCFLIP_NUMBER : GCFLIP_NIL) && (k % 3 != 2 || number == k - 1));
+            EXPECT(gcflip_beside_look(&mutator, 3, &view) == (k == 0 ? GCFLIP_NIL : GCFLIP_OBJECT));
+            failures++;
+            answer = k % 3 == 0 ? gcflip_beside_new_pair(&mutator, 3, 2, 0, 1) : k % 3 == 1 ? gcflip_beside_put_number(&mutator, 0, 0, k) : gcflip_beside_put_nil(&mutator, 0, 0);
+        }
+        fail_allocation(0);
+        EXPECT(answer == (k % 3 == 0 ? GCFLIP_MADE : GCFLIP_DONE));
+    }
+    EXPECT(failures > 0);
+    EXPECT(gcflip_beside_room(&mutator) == 4095 - 4 - 200 * 4);
+    collect();
+    EXPECT(gcflip_beside_get(&mutator, 2, 0, 0, &number) == GCFLIP_NIL);
+    EXPECT(gcflip_beside_get(&mutator, 2, 3, 0, &number) == GCFLIP_OBJECT && gcflip_beside_same(&mutator, 2, 0) == GCFLIP_SAME);
+    EXPECT(gcflip_beside_get(&mutator, 2, 3, 1, &number) == GCFLIP_NUMBER && number == 7);
     close_both();
 }
 
@@ -510,6 +603,60 @@ static void closes(void)
     }
 }
 
+static void expect_checks(uint64_t along, uint64_t whole)
+{
+    checks = (gcflip_flip_checks){KEPT, KEPT};
+    EXPECT(gcflip_beside_flip_checks(&collector, &checks) == GCFLIP_DONE);
+    EXPECT(checks.along == along && checks.whole == whole);
+}
+
+/* Each flip with the number of the option checks both spaces whole, counted from the last one that did. */
+static void whole_checks(void)
+{
+    enum { FLIPS = 13 };
+
+    checks = (gcflip_flip_checks){KEPT, KEPT};
+    EXPECT(gcflip_beside_flip_checks(&collector, &checks) == GCFLIP_CLOSED && checks.along == KEPT && checks.whole == KEPT);
+    for (uint32_t each = 0; each < 5; each++) {
+        gcflip_beside_options options = gcflip_beside_options_default(WORDS);
+
+        EXPECT(options.bytes == 16 && options.size == WORDS && options.extra_roots == 0 && options.whole_each == 0);
+        options.extra_roots = 3;
+        options.whole_each = each;
+        heap_words = WORDS;
+        for (uint32_t wrong = 0; wrong < 40; wrong += 4) {
+            options.bytes = wrong;
+            if (wrong != 16)
+                EXPECT(gcflip_beside_open_with(&mutator, &collector, &options) == GCFLIP_OUT_OF_RANGE && !mutator.at && !collector.at);
+        }
+        options.bytes = 16;
+        EXPECT(gcflip_beside_open_with(&mutator, &collector, &options) == GCFLIP_DONE);
+        EXPECT(gcflip_beside_open_with(&mutator, &collector, &options) == GCFLIP_OPEN);
+        options.bytes = 15;
+        EXPECT(gcflip_beside_open_with(&mutator, &collector, &options) == GCFLIP_OPEN);
+        expect_nil_roots(35);
+        make_one();
+        for (uint32_t flip = 1; flip <= FLIPS; flip++) {
+            take();
+            expect_checks(each == 0 ? flip - 1 : flip - 1 - (flip - 1) / each, each == 0 ? 0 : (flip - 1) / each);
+            EXPECT(gcflip_beside_place_roots(&collector) == GCFLIP_DONE);
+            EXPECT(gcflip_beside_work(&collector, MANY) == GCFLIP_CLEAN);
+            EXPECT((flip % 2 ? gcflip_beside_flip : gcflip_beside_finish)(&collector) == GCFLIP_FLIPPED);
+            go_on();
+            expect_one();
+        }
+        expect_checks(each == 0 ? FLIPS : FLIPS - FLIPS / each, each == 0 ? 0 : FLIPS / each);
+        close_both();
+    }
+    /* a size and a number of extra roots are refused as open refuses them */
+    for (int k = 0; k < 2; k++) {
+        gcflip_beside_options options = gcflip_beside_options_default(k ? WORDS : 0);
+
+        options.extra_roots = k ? MOST_EXTRA + 1 : 0;
+        EXPECT(gcflip_beside_open_with(&mutator, &collector, &options) == GCFLIP_OUT_OF_RANGE && !mutator.at && !collector.at);
+    }
+}
+
 /* Each allocation of a call refused in turn. Nothing is lost, and the call then succeeds. */
 static void refused_open(void)
 {
@@ -570,10 +717,11 @@ static void refused_put(void)
     close_both();
 }
 
-/* Where memory runs out for a flip, the mutator keeps all its roots. The last extra one, whose place is 36, refers to the object too. */
-static void refused_flip(uint32_t (*call)(gcflip_collector *))
+/* Where memory runs out for a flip, the mutator keeps all its roots, and the flip is not counted. The last extra one, whose place is 36, refers to the object
+   too. */
+static void refused_flip(uint32_t (*call)(gcflip_collector *), uint32_t whole_each)
 {
-    open_with(WORDS, 5);
+    open_checked(WORDS, 5, whole_each);
     make_one();
     EXPECT(gcflip_beside_copy(&mutator, 36, 0) == GCFLIP_DONE);
     take();
@@ -586,12 +734,14 @@ static void refused_flip(uint32_t (*call)(gcflip_collector *))
             EXPECT(gcflip_beside_work(&collector, MANY) == GCFLIP_CLEAN);
         }
         if (answer == GCFLIP_FLIPPED) {
-            /* the moved roots, the words of both spaces and the pairs */
-            EXPECT(!has_failed() && n > 4);
+            /* the moved roots; the words of both spaces and the pairs too, where they are checked whole */
+            EXPECT(!has_failed() && n > (whole_each ? 4 : 1));
+            expect_checks(!whole_each, whole_each);
             break;
         }
         EXPECT(answer == GCFLIP_NO_MEMORY && has_failed());
         EXPECT(gcflip_beside_resume(&mutator) == GCFLIP_NOT_YET);
+        expect_checks(0, 0);
         if (n % 2) {
             /* the mutator goes on in the same space meanwhile */
             fail_allocation(0);
@@ -665,8 +815,9 @@ static void memory_of_flips(void)
             first = bytes_in_use();
         EXPECT(flip == 0 || bytes_in_use() == first);
     }
-    /* two spaces of cells and claims for both, less than 3 bytes a word for the checker's tables, and less than 8 KiB of other blocks */
-    EXPECT(first < (2 * (8 + 4) + 3) * (1 << 16) + 8192);
+    /* two spaces of cells, each with a bit a word for its starts; claims for both, and those of the last flip, which tell where objects went; less than 3
+       bytes a word for the checker's tables, and less than 8 KiB of other blocks */
+    EXPECT(first < (2 * 8 + 3 * 4 + 3) * (1 << 16) + 2 * (1 << 13) + 8192);
     close_both();
 }
 
@@ -728,6 +879,7 @@ int main(void)
     closed_handles();
     opening();
     commands();
+    values_and_pairs();
     extra_roots();
     many_extra_roots();
     handshakes();
@@ -736,10 +888,14 @@ int main(void)
     takes_logs_early();
     copies_beside();
     closes();
+    whole_checks();
     refused_open();
     refused_put();
-    refused_flip(gcflip_beside_flip);
-    refused_flip(gcflip_beside_finish);
+    refused_pairs();
+    for (uint32_t whole_each = 0; whole_each < 2; whole_each++) {
+        refused_flip(gcflip_beside_flip, whole_each);
+        refused_flip(gcflip_beside_finish, whole_each);
+    }
     refused_prepare();
     memory_of_flips();
     sizes();

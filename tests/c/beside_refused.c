@@ -1,9 +1,11 @@
-/* A collector's thread whose flip finds no memory: the program is told, keeps its objects, and a later flip succeeds. Links its own allocation functions,
-   which both threads call. */
+/* A collector's thread whose flip finds no memory: the program is told, keeps its objects, and a later flip succeeds. Each allocation of a whole run is refused
+   in turn, in either thread: nothing is lost. Links its own allocation functions, which both threads call. */
+#define _POSIX_C_SOURCE 200809L
 #include "expect.h"
 #include "gcflip_thread.h"
 #include <gcflip_allocator.h>
 #include <stdbool.h>
+#include <time.h>
 
 enum { WORDS = 4096, EXTRA = 100, LAST = GCFLIP_BESIDE_ROOTS + EXTRA - 1 };
 
@@ -12,6 +14,21 @@ enum { LARGE = 4 * WORDS };
 
 static _Atomic bool refuses, refuses_large;
 static _Atomic long blocks;
+
+/* Of each thread's requests, one is refused, or none. */
+enum { COLLECTORS, PROGRAMS };
+
+static _Thread_local int caller; /* the program's thread says so */
+static _Atomic long requests[2], refused_one[2];
+static _Atomic bool has_refused;
+
+static bool is_refused(void)
+{
+    bool found = ++requests[caller] == refused_one[caller];
+
+    has_refused = has_refused || found;
+    return found || refuses;
+}
 
 static struct gcflip_memory memory_at(void *at)
 {
@@ -22,7 +39,7 @@ static struct gcflip_memory memory_at(void *at)
 
 struct gcflip_memory rattle_alloc(size_t size, size_t alignment)
 {
-    void *at = refuses || (refuses_large && size >= LARGE) ? NULL : malloc(size ? size : alignment);
+    void *at = is_refused() || (refuses_large && size >= LARGE) ? NULL : malloc(size ? size : alignment);
     blocks += at != NULL;
     return memory_at(at);
 }
@@ -30,7 +47,7 @@ struct gcflip_memory rattle_alloc(size_t size, size_t alignment)
 struct gcflip_memory rattle_realloc(void *old, size_t used, size_t size, size_t alignment)
 {
     (void)used;
-    return memory_at(refuses ? NULL : realloc(old, size ? size : alignment));
+    return memory_at(is_refused() ? NULL : realloc(old, size ? size : alignment));
 }
 
 void rattle_dealloc(void *old)
@@ -40,6 +57,13 @@ void rattle_dealloc(void *old)
 }
 
 static gcflip_thread *thread;
+
+static void sleeps(long milliseconds)
+{
+    struct timespec time = {0, milliseconds * 1000000};
+
+    nanosleep(&time, NULL);
+}
 
 static void expect_object(void)
 {
@@ -97,12 +121,155 @@ static void lets_go_without_memory(void)
     expect_object();
 }
 
+/* A collection fails while the program makes no safepoint, and so does not see it. A call that waits for a flip begins another one, and comes back. */
+static void fails_unseen(void)
+{
+    gcflip_mutator *mutator = gcflip_thread_mutator(thread);
+    gcflip_thread_counts counts;
+    uint64_t failed;
+
+    for (int reserves = 0; reserves < 2; reserves++) {
+        refuses_large = true;
+        /* a flip whose memory was made before, if there is one, succeeds */
+        gcflip_thread_collect(thread);
+        gcflip_thread_read(thread, &counts);
+        failed = counts.failed;
+        while (gcflip_beside_new(mutator, 3, 1, 2) == GCFLIP_MADE)
+            ;
+        /* the collection is called for here, and fails */
+        EXPECT(gcflip_thread_try_safepoint(thread) != GCFLIP_PARKED);
+        do {
+            sleeps(1);
+            gcflip_thread_read(thread, &counts);
+        } while (counts.failed == failed);
+        EXPECT((reserves ? gcflip_thread_reserve(thread, WORDS / 2) : gcflip_thread_collect(thread)) == GCFLIP_NO_MEMORY);
+        expect_object();
+        refuses_large = false;
+        EXPECT((reserves ? gcflip_thread_reserve(thread, WORDS / 2) : gcflip_thread_collect(thread)) == (reserves ? GCFLIP_DONE : GCFLIP_FLIPPED));
+        EXPECT(gcflip_beside_room(mutator) >= WORDS / 2);
+        expect_object();
+    }
+}
+
+/* ---- Each allocation of a run refused in turn */
+
+/* A list of LISTED objects fills half of the heap, and copying it takes more steps than the collector performs at a stop. So the program goes on to write
+   meanwhile, and its log grows. */
+enum { SMALL = 1 << 14, LISTED = 2000, FLIPS = 4, LIST = 4, NEWEST = 5, NUMBER = 6, READ = 7 };
+
+/* Writes the value of root t into field i of the object in root s, which had `before`. If memory runs out for the log, that is still there, and the put
+   succeeds when it is retried. */
+static void put(gcflip_mutator *mutator, uint32_t s, uint32_t i, uint32_t t, uint32_t seen, uint64_t before)
+{
+    uint32_t answer = gcflip_beside_put(mutator, s, i, t);
+    gcflip_view view = {0};
+
+    if (answer == GCFLIP_NO_MEMORY) {
+        EXPECT(has_refused);
+        EXPECT(gcflip_beside_peek(mutator, s, i, &view) == seen && view.number == before);
+        answer = gcflip_beside_put(mutator, s, i, t);
+    }
+    EXPECT(answer == GCFLIP_DONE);
+}
+
+/* Makes an object in root NEWEST. If the heap is full, a flip makes room, unless memory runs out for it, once. */
+static void make(gcflip_mutator *mutator)
+{
+    while (gcflip_beside_new(mutator, NEWEST, 1, 2) == GCFLIP_FULL)
+        EXPECT(gcflip_thread_collect(thread) == GCFLIP_FLIPPED || has_refused);
+}
+
+/* Makes the list. Each object has its number in field 1. */
+static void make_list(gcflip_mutator *mutator)
+{
+    for (uint64_t k = 0; k < LISTED; k++) {
+        make(mutator);
+        EXPECT(gcflip_beside_set_number(mutator, NUMBER, k) == GCFLIP_DONE);
+        put(mutator, NEWEST, 0, LIST, GCFLIP_NIL, 0);
+        put(mutator, NEWEST, 1, NUMBER, GCFLIP_NIL, 0);
+        EXPECT(gcflip_beside_copy(mutator, LIST, NEWEST) == GCFLIP_DONE);
+        EXPECT(gcflip_thread_safepoint(thread) == GCFLIP_DONE);
+    }
+}
+
+/* The list is as it was made, but for the first object, whose number is this one. */
+static void expect_list(gcflip_mutator *mutator, uint64_t first)
+{
+    uint64_t number;
+
+    EXPECT(gcflip_beside_copy(mutator, READ, LIST) == GCFLIP_DONE);
+    for (uint64_t k = LISTED; k-- > 0;) {
+        EXPECT(gcflip_beside_get(mutator, NUMBER, READ, 1, &number) == GCFLIP_NUMBER && number == (k == LISTED - 1 ? first : k));
+        EXPECT(gcflip_beside_get(mutator, READ, READ, 0, &number) == (k == 0 ? GCFLIP_NIL : GCFLIP_OBJECT));
+    }
+}
+
+/* Opens a heap whose collections follow one another, of which each second flip checks both spaces whole. Writes into the list and makes garbage until some
+   of them have flipped. The request with this number is refused to this thread. Returns whether there was one. */
+static bool runs_without(int refused, long request)
+{
+    gcflip_beside_options options = gcflip_beside_options_default(SMALL);
+    gcflip_pace pace = gcflip_pace_default();
+    gcflip_thread_counts counts = {0};
+    gcflip_mutator *mutator;
+    uint64_t written = LISTED - 1;
+    uint32_t answer;
+
+    options.whole_each = 2;
+    pace.factor = 100;
+    pace.least = 0;
+    has_refused = false;
+    requests[COLLECTORS] = requests[PROGRAMS] = 0;
+    refused_one[refused] = request;
+    answer = gcflip_thread_open_with(&thread, &options, &pace);
+    if (answer == GCFLIP_DONE) {
+        mutator = gcflip_thread_mutator(thread);
+        make_list(mutator);
+        while (counts.flips < FLIPS || requests[PROGRAMS] == 0) {
+            EXPECT(gcflip_beside_set_number(mutator, NUMBER, written + 1) == GCFLIP_DONE);
+            put(mutator, LIST, 1, NUMBER, GCFLIP_NUMBER, written);
+            written++;
+            if (written % 64 == 0)
+                make(mutator);
+            EXPECT(gcflip_thread_safepoint(thread) == GCFLIP_DONE);
+            gcflip_thread_read(thread, &counts);
+        }
+        EXPECT(counts.failed <= has_refused);
+        expect_list(mutator, written);
+        EXPECT(gcflip_thread_collect(thread) == GCFLIP_FLIPPED || (has_refused && gcflip_thread_collect(thread) == GCFLIP_FLIPPED));
+        expect_list(mutator, written);
+        gcflip_thread_close(thread);
+    }
+    EXPECT(answer == GCFLIP_DONE || (answer == GCFLIP_NO_MEMORY && has_refused && thread == NULL));
+    refused_one[refused] = 0;
+    EXPECT(blocks == 0);
+    return has_refused;
+}
+
+/* How many requests a run makes depends on how the threads take turns, so several runs in a row have to make fewer. The collector's thread makes two for
+   each flip at least: the moved roots, and the space of the next flip. */
+static void refused_in_turn(void)
+{
+    for (int refused = COLLECTORS; refused <= PROGRAMS; refused++) {
+        long found = 0;
+
+        for (long request = 1, without = 0; without < 3; request++) {
+            bool has_met = runs_without(refused, request);
+
+            found += has_met;
+            without = has_met ? 0 : without + 1;
+        }
+        EXPECT(found >= (refused == COLLECTORS ? 2 * FLIPS : 1));
+    }
+}
+
 int main(void)
 {
     gcflip_thread_counts counts;
     gcflip_mutator *mutator;
     gcflip_pace pace = gcflip_pace_default();
 
+    caller = PROGRAMS;
     opening();
     EXPECT(gcflip_thread_open(&thread, WORDS, EXTRA, &pace) == GCFLIP_DONE);
     mutator = gcflip_thread_mutator(thread);
@@ -131,7 +298,9 @@ int main(void)
     EXPECT(gcflip_beside_room(mutator) == WORDS - 1 - 4);
     expect_object();
     lets_go_without_memory();
+    fails_unseen();
     gcflip_thread_close(thread);
     EXPECT(blocks == 0);
+    refused_in_turn();
     return 0;
 }

@@ -190,6 +190,16 @@ static void sure_puts(void)
     close_heap();
 }
 
+/* Expects what a read of a field by its object's address returns, and that the other call writes the same. */
+static void field_is(uint32_t address, uint32_t i, uint32_t answer, uint32_t kind, uint32_t count, uint64_t number)
+{
+    gcflip_seen seen = gcflip_field_at_seen(&heap, address, i);
+    EXPECT(seen.answer == answer && seen.kind == kind && seen.count == count && seen.number == number);
+    view = (gcflip_view){77, 77, 77};
+    EXPECT(gcflip_field_at(&heap, address, i, &view) == answer);
+    EXPECT(answer == GCFLIP_NO_FIELD ? view.kind == 77 && view.count == 77 && view.number == 77 : view.kind == kind && view.count == count && view.number == number);
+}
+
 /* Fields by the address of their object, which need no root. */
 static void fields_at(uint8_t checking)
 {
@@ -205,6 +215,16 @@ static void fields_at(uint8_t checking)
     EXPECT(gcflip_field_at(&heap, 1, 2, &view) == GCFLIP_NIL && view.kind == 0 && view.count == 0 && view.number == 0);
     EXPECT(gcflip_field_at(&heap, 6, 0, &view) == GCFLIP_NUMBER && view.number == 0);
     EXPECT(gcflip_field_at(&heap, 6, 1, &view) == GCFLIP_NUMBER && view.number == 9223372036854775807u);
+    field_is(1, 0, GCFLIP_NUMBER, 0, 0, 10);
+    field_is(1, 1, GCFLIP_OBJECT, KIND, 3, 1);
+    field_is(1, 2, GCFLIP_NIL, 0, 0, 0);
+    field_is(1, 3, GCFLIP_NO_FIELD, 0, 0, 0);
+    field_is(6, 1, GCFLIP_NUMBER, 0, 0, 9223372036854775807u);
+    field_is(6, 65536, GCFLIP_NO_FIELD, 0, 0, 0);
+    field_is(2, 0, GCFLIP_NIL, 0, 0, 0);
+    EXPECT(gcflip_put(&heap, 0, 0, 2, 1) == GCFLIP_DONE);
+    field_is(1, 2, GCFLIP_RAW_OBJECT, 255, 2, 6);
+    EXPECT(gcflip_put_nil(&heap, 0, 0, 2) == GCFLIP_DONE);
     view = (gcflip_view){77, 77, 77};
     EXPECT(gcflip_field_at(&heap, 1, 3, &view) == GCFLIP_NO_FIELD && gcflip_field_at(&heap, 6, 2, &view) == GCFLIP_NO_FIELD);
     EXPECT(gcflip_field_at(&heap, 1, 65536, &view) == GCFLIP_NO_FIELD && gcflip_field_at(&heap, 6, UINT32_MAX, &view) == GCFLIP_NO_FIELD);

@@ -525,6 +525,34 @@ static void texts_while_collecting(void)
     hp_close(&h);
 }
 
+/* A hash depends on the bytes and the seed: of 4,000 texts of zeros, most of which have a number at one end, no two have the same hash. */
+static void hashes_of_texts(void)
+{
+    enum { COUNTED = 4000, ZEROS = 600 };
+    static uint64_t hashes[COUNTED];
+    hp_open(&h, 100000, 4, hook);
+    memset(source, 0, 1000);
+    hp_new_bytes(&h, 0, TEXT, "herbpond", 8); /* as in Rust and Python */
+    EXPECT(hp_bytes_hash(&h, 0, 5) == 0x27fd3d97bf24d07a);
+    for (uint32_t i = 0; i < COUNTED; i++) {
+        uint32_t count = i < ZEROS ? i : 8 + i % 500, at = i % 2 * (count - 4);
+        if (i >= ZEROS)
+            memcpy(source + at, &i, 4);
+        hp_new_bytes(&h, 0, TEXT, source, count);
+        if (i >= ZEROS)
+            memset(source + at, 0, 4);
+        hashes[i] = hp_bytes_hash(&h, 0, 5);
+        EXPECT(hashes[i] != hp_bytes_hash(&h, 0, 6));
+        hp_bytes_part(&h, 1, TEXT, 0, 0, count / 3);
+        hp_bytes_part(&h, 2, TEXT, 0, count / 3, count - count / 3);
+        hp_bytes_join(&h, 1, TEXT, 1, 2);
+        EXPECT(hp_bytes_hash(&h, 1, 5) == hashes[i]);
+        for (uint32_t k = 0; k < i; k++)
+            EXPECT(hashes[k] != hashes[i]);
+    }
+    hp_close(&h);
+}
+
 /* The longest text, and two that are too long together. */
 static void longest_texts(void)
 {
@@ -553,6 +581,7 @@ static void refused_text(hp_root p, uint32_t answer)
     FAILS(hp_bytes_join(&h, 4, TEXT, 0, p), answer, "hp_bytes_join");
     FAILS(hp_bytes_part(&h, 4, TEXT, p, 0, 0), answer, "hp_bytes_part");
     FAILS(hp_bytes_length(&h, p), answer, "hp_bytes_length");
+    FAILS((void)hp_bytes_hash(&h, p, 0), answer, "hp_bytes_hash");
     FAILS(hp_bytes_read(&h, p, 0, found, 0), answer, "hp_bytes_read");
     FAILS(hp_bytes_same(&h, p, 0), answer, "hp_bytes_same");
     FAILS(hp_bytes_same(&h, 0, p), answer, "hp_bytes_same");
@@ -728,6 +757,7 @@ int main(void)
     fill_source();
     texts_take_their_words();
     texts_while_collecting();
+    hashes_of_texts();
     longest_texts();
     refused_texts();
     texts_without_memory();

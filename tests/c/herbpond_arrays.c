@@ -1,4 +1,4 @@
-/* Tests herbpond_arrays.h: arrays of many lengths with a model, how many words they take, each refusal, full heaps, and refused memory. */
+/* Tests herbpond_arrays.h: arrays and vectors of many lengths with a model, how many words they take, each refusal, full heaps, and refused memory. */
 #include "own_allocator.h"
 #include "expect.h"
 #include "herbpond_arrays.h"
@@ -249,6 +249,90 @@ static void refused(void)
     EXPECT(blocks_in_use() == 0);
 }
 
+/* ---- Vectors of words */
+
+enum { VECTOR, OTHER_VECTOR, NUMBERS, LONG = 3000, LONGEST = GCFLIP_MOST_WORDS };
+
+static uint64_t wanted[LONGEST], read[LONGEST];
+
+static void expect_words(uint32_t count)
+{
+    EXPECT(hp_words_length(&h, VECTOR) == count && hp_look(&h, VECTOR).kind == KIND);
+    memset(read, 0xa5, sizeof read);
+    hp_words_read(&h, VECTOR, 0, read, count);
+    EXPECT(memcmp(read, wanted, count * sizeof *read) == 0);
+}
+
+static void make_vector(uint32_t count)
+{
+    uint32_t end = hp_counts(&h).end;
+    hp_new_words(&h, VECTOR, KIND, count);
+    EXPECT(hp_counts(&h).end == end + 2 + count + (count + 62) / 63);
+    memset(wanted, 0, sizeof wanted);
+    expect_words(count);
+    for (uint32_t k = 0; k < count; k++)
+        wanted[k] = UINT64_MAX - k * 0x9e3779b97f4a7c15u;
+    hp_words_write(&h, VECTOR, 0, wanted, count);
+    expect_words(count);
+    FAILS(hp_words_read(&h, VECTOR, 1, read, count), GCFLIP_NO_FIELD, "hp_words_read");
+    FAILS(hp_words_write(&h, VECTOR, count, wanted, 1), GCFLIP_NO_FIELD, "hp_words_write");
+    hp_words_read(&h, VECTOR, count, NULL, 0);
+    hp_words_write(&h, VECTOR, count, NULL, 0);
+    expect_words(count);
+}
+
+/* A write of some words, while a collection is open whose log cannot grow. If the log has no room, the collection is given up. Returns whether it was. */
+static bool write_some(uint32_t at, uint32_t count)
+{
+    for (uint32_t k = 0; k < count; k++)
+        wanted[at + k] ^= 1ull << 63 | k;
+    if (!hp_counts(&h).is_open)
+        EXPECT(gcflip_heap_step_begin(&h.heap) == GCFLIP_BEGUN);
+    fail_allocation(1);
+    hp_words_write(&h, VECTOR, at, wanted + at, count);
+    fail_allocation(0);
+    expect_words(LONG);
+    return !hp_counts(&h).is_open;
+}
+
+static void vectors(void)
+{
+    const uint32_t counts[] = {0, 1, 2, 62, 63, 64, 125, 126, 127, 300, LONGEST};
+    double half = 0.5, found = 0;
+    hp_open(&h, 200000, 4, hook);
+    for (size_t i = 0; i < COUNT(counts); i++)
+        make_vector(counts[i]);
+    make_vector(LONG);
+    write_some(0, 1);
+    write_some(62, 3);
+    EXPECT(write_some(10, LONG - 10)); /* three segments of the log */
+    memcpy(wanted + 7, &half, sizeof half);
+    hp_words_write(&h, VECTOR, 7, wanted + 7, 1);
+    hp_collect(&h);
+    expect_words(LONG);
+    hp_words_read(&h, VECTOR, 7, read, 1);
+    memcpy(&found, read, sizeof found);
+    EXPECT(found == 0.5);
+    hp_new(&h, OTHER_VECTOR, KIND, 3);
+    hp_set_int(&h, NUMBERS, 5);
+    for (hp_root s = OTHER_VECTOR; s <= NUMBERS; s++) {
+        FAILS((void)hp_words_length(&h, s), GCFLIP_NO_OBJECT, "hp_words_length");
+        FAILS(hp_words_read(&h, s, 0, read, 0), GCFLIP_NO_OBJECT, "hp_words_read");
+        FAILS(hp_words_write(&h, s, 0, read, 0), GCFLIP_NO_OBJECT, "hp_words_write");
+    }
+    FAILS(hp_new_words(&h, VECTOR, KIND, LONGEST + 1), GCFLIP_OUT_OF_RANGE, "hp_new_words");
+    FAILS(hp_new_words(&h, VECTOR, KIND, UINT32_MAX), GCFLIP_OUT_OF_RANGE, "hp_new_words");
+    FAILS(hp_new_words(&h, VECTOR, KIND, 63u << 26), GCFLIP_OUT_OF_RANGE, "hp_new_words"); /* 2^32 fields */
+    FAILS(hp_new_words(&h, VECTOR, 256, 1), GCFLIP_OUT_OF_RANGE, "hp_new_words");
+    expect_words(LONG);
+    hp_close(&h);
+    hp_open(&h, 100, 4, hook);
+    FAILS(hp_new_words(&h, VECTOR, KIND, 97), GCFLIP_FULL, "hp_reserve");
+    hp_new_words(&h, VECTOR, KIND, 95); /* 97 fields, and 2 words more: all but word 0 */
+    EXPECT(hp_words_length(&h, VECTOR) == 95 && hp_counts(&h).end == 100);
+    hp_close(&h);
+}
+
 int main(void)
 {
     lengths();
@@ -264,5 +348,6 @@ int main(void)
     full_heap(1 + 4 + 4098 + 10 + 4098, 8192);
     longest();
     refused();
+    vectors();
     return 0;
 }

@@ -83,6 +83,12 @@ static void many_units_a_call(void)
     close_heap();
 }
 
+static void expect_number(uint32_t k, uint64_t number)
+{
+    const gcflip_seen seen = gcflip_look_seen(&heap, (uint32_t)gcflip_heap_root_count(1) + k);
+    EXPECT(seen.answer == GCFLIP_NUMBER && seen.number == number);
+}
+
 /* A root is looked at again if it was written since. To write it twice costs one look, and to read it none. */
 static void roots_that_are_written(void)
 {
@@ -101,7 +107,16 @@ static void roots_that_are_written(void)
     EXPECT(gcflip_heap_root_load(&heap, 0, 1, 7) == GCFLIP_DONE && gcflip_heap_move(&heap, 0, 2, 1) == GCFLIP_DONE && left() == 2);
     EXPECT(gcflip_heap_root_clear(&heap, 4, 8) == GCFLIP_DONE && left() == 5); /* 4 to 7, of which 5 is counted */
     EXPECT(gcflip_copy(&heap, (uint32_t)gcflip_heap_root_count(1) + 100, 16) == GCFLIP_DONE && left() == 6);
-    expect_work(1, 1, 6, GCFLIP_FLIPPED);
+    /* a number and nil ask for a look as a reference does */
+    EXPECT(gcflip_set_number(&heap, (uint32_t)gcflip_heap_root_count(1) + 200, 9) == GCFLIP_DONE && left() == 7);
+    EXPECT(gcflip_set_nil(&heap, (uint32_t)gcflip_heap_root_count(1) + 300) == GCFLIP_DONE && left() == 8);
+    EXPECT(gcflip_set_number(&heap, (uint32_t)gcflip_heap_root_count(1) + 300, 8) == GCFLIP_DONE && left() == 8);
+    EXPECT(gcflip_set_nil(&heap, (uint32_t)gcflip_heap_root_count(1) + 400) == GCFLIP_DONE && left() == 9);
+    expect_work(1, 1, 9, GCFLIP_FLIPPED);
+    expect_number(200, 9);
+    expect_number(300, 8);
+    EXPECT(gcflip_look_seen(&heap, (uint32_t)gcflip_heap_root_count(1) + 400).answer == GCFLIP_NIL);
+    EXPECT(gcflip_look_seen(&heap, (uint32_t)gcflip_heap_root_count(1) + 401).answer == GCFLIP_OBJECT);
     close_heap();
 }
 
@@ -123,7 +138,8 @@ static void stores_between_calls(void)
     close_heap();
 }
 
-/* Roots above the last one in use cost no look. If a look finds nil, and the last root in use is nil too, that is not in use any more. */
+/* Roots above the last one in use cost no look. For each look that finds nil, and for each look of a row, the last root in use is not in use any more, if it
+   is nil. A row begins behind the second look of a search. */
 static void roots_in_use(void)
 {
     open_heap(100, 0);
@@ -132,13 +148,13 @@ static void roots_in_use(void)
     EXPECT(gcflip_heap_root_clear(&heap, 149, 150) == GCFLIP_DONE && left() == 150);
     EXPECT(gcflip_heap_root_clear(&heap, 0, 1) == GCFLIP_DONE);
     begin();
-    EXPECT(gcflip_heap_work(&heap, 1, &work) == GCFLIP_DONE && work.steps == 0 && work.looks == UNIT && left() == 150 - UNIT - 1);
-    /* 100 to 148 are nil, too: each look at one of them takes another one from the end */
-    EXPECT(gcflip_heap_work(&heap, 100, &work) == GCFLIP_DONE && work.last == GCFLIP_FLIPPED && work.looks == 100 - UNIT + 25);
-    EXPECT(left() == 124);
-    EXPECT(gcflip_heap_root_clear(&heap, 0, ROOTS) == GCFLIP_DONE && left() == 124);
+    /* 100 to 149 are nil, and root 0 is: the look at root 1 alone takes none of them from the end */
+    EXPECT(gcflip_heap_work(&heap, 1, &work) == GCFLIP_DONE && work.steps == 0 && work.looks == UNIT && left() == 150 - UNIT - (UNIT - 1));
+    EXPECT(gcflip_heap_work(&heap, 100, &work) == GCFLIP_DONE && work.last == GCFLIP_FLIPPED && work.looks == 100 - UNIT);
+    EXPECT(left() == 100);
+    EXPECT(gcflip_heap_root_clear(&heap, 0, ROOTS) == GCFLIP_DONE && left() == 100);
     EXPECT(gcflip_heap_set_nil(&heap, 0, OBJECT) == GCFLIP_DONE);
-    EXPECT(gcflip_heap_work(&heap, 100, &work) == GCFLIP_DONE && work.last == GCFLIP_FLIPPED && work.looks == 124 && left() == 0);
+    EXPECT(gcflip_heap_work(&heap, 100, &work) == GCFLIP_DONE && work.last == GCFLIP_FLIPPED && work.looks == 100 && left() == 0);
     close_heap();
 }
 
@@ -191,7 +207,7 @@ static void expect_paced(uint32_t wanted, uint32_t steps, uint32_t looks, uint32
     EXPECT(gcflip_heap_work_paced(&heap, &pace, wanted, &work) == GCFLIP_DONE);
     EXPECT(work.steps == steps && work.looks == looks && work.last == last && pace.owed == owed && pace.roots == left());
     EXPECT(steps + (pace.words == 0 ? 0 : looks / UNIT) + owed == due || last == GCFLIP_FLIPPED);
-    EXPECT(pace.words == 0 || (steps <= most && looks <= UNIT * most && looks <= pace.words));
+    EXPECT(pace.words == 0 || (steps <= most && looks <= UNIT * most && looks <= 2 * pace.words));
 }
 
 /* Each call takes looks in the place of all steps that are due. Each unit of them is one that is not owed any more. */
@@ -206,21 +222,21 @@ static void expect_only_looks(int calls, uint32_t looks)
 /* With a bound, looks take the place of steps. 43 steps are left at first: 10 for the object, 32 units for 1000 looks, and the flip. */
 static void bounded_pace(void)
 {
-    /* the words of the object end the first call; four looks are no unit, so the steps stay owed until fewer are left */
+    /* the words of the object end the first call; eight looks are no unit, so the steps stay owed until fewer are left */
     begin_paced(4);
     expect_paced(UINT32_MAX, 1, 0, GCFLIP_COPIED, 42);
-    expect_only_looks(249, 4);
+    expect_only_looks(124, 8);
     EXPECT(pace.owed == 12);
-    expect_paced(0, 4, 4, GCFLIP_SCANNED, 8);
+    expect_paced(0, 4, 8, GCFLIP_SCANNED, 8);
     expect_paced(0, 4, 0, GCFLIP_SCANNED, 4);
     expect_paced(0, 2, 0, GCFLIP_FLIPPED, 0);
     close_heap();
-    /* three units and 4 looks are 100 looks */
+    /* six units and 8 looks are 200 looks */
     begin_paced(100);
-    expect_paced(UINT32_MAX, 1, 100, GCFLIP_COPIED, 39);
-    expect_only_looks(8, 100);
-    EXPECT(pace.owed == 15);
-    expect_paced(0, 10, 100, GCFLIP_FLIPPED, 0);
+    expect_paced(UINT32_MAX, 1, 200, GCFLIP_COPIED, 36);
+    expect_only_looks(3, 200);
+    EXPECT(pace.owed == 18);
+    expect_paced(0, 10, 200, GCFLIP_FLIPPED, 0);
     close_heap();
     /* with fewer units than the bound allows looks, there are no more units than steps due */
     begin_paced(1000);

@@ -1,5 +1,5 @@
-/* Pages of memory: pages touch|slices|rest. A heap that was touched meets no page for the first time in its first collection. A heap that became
- * smaller gives its old space back in slices, or what is left of it where a collection begins or a flip checks both spaces whole. */
+/* Pages of memory: pages touch|slices|release|rest. A heap that was touched meets no page for the first time in its first collection. A heap that became
+ * smaller gives its old space back in slices, or what is left of it where a collection begins or a flip checks both spaces whole. A release gives back the pages that no object takes. */
 #define _GNU_SOURCE
 #include "expect.h"
 #include "gcflip_heap.h"
@@ -177,6 +177,28 @@ static void rest(void)
     EXPECT(gcflip_heap_close(&heap) == GCFLIP_DONE);
 }
 
+/* Pages behind the end go back, and the next collection's space with them. The list stays, and the heap can be filled again. */
+static void releases(uint32_t words)
+{
+    uint32_t cells = LARGE / 8 / CELL_WORDS, made = 0;
+    gcflip_work work = {0, 0, 0, 0, 0};
+    open_heap(words);
+    EXPECT(gcflip_heap_touch(&heap) == GCFLIP_DONE);
+    keep_cells(cells);
+    long before = resident();
+    EXPECT(gcflip_release(&heap) == GCFLIP_DONE);
+    EXPECT(before - resident() >= (2 * words - cells * CELL_WORDS) / PAGE_WORDS - FEW);
+    before = resident();
+    EXPECT(gcflip_release(&heap) == GCFLIP_DONE && gcflip_room(&heap) == words - 1 - cells * CELL_WORDS);
+    EXPECT(resident() - before <= FEW);
+    while (gcflip_heap_new_pair(&heap, 0, 3, 1, 0, 1) == GCFLIP_MADE)
+        made++;
+    EXPECT(made == (words - 1) / CELL_WORDS - cells && gcflip_collect(&heap, &work) == GCFLIP_DONE && work.pairs == cells + 1);
+    for (uint32_t k = 0; k < cells; k++)
+        EXPECT(gcflip_get_seen(&heap, 16, 16, 0).answer == (k + 1 < cells ? GCFLIP_OBJECT : GCFLIP_NIL));
+    EXPECT(gcflip_heap_close(&heap) == GCFLIP_DONE && gcflip_release(&heap) == GCFLIP_CLOSED);
+}
+
 int main(int count, char **words)
 {
     EXPECT(count == 2);
@@ -186,6 +208,9 @@ int main(int count, char **words)
         touch();
     else if (strcmp(words[1], "slices") == 0)
         slices();
+    else if (strcmp(words[1], "release") == 0)
+        for (uint32_t less = 0; less < 4; less++) /* blocks that end in a page or with one */
+            releases(LARGE - less);
     else
         rest();
     return 0;

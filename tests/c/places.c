@@ -63,6 +63,9 @@ static void many_slots(void)
     EXPECT(gcflip_set_number(&heap, 31, 7) == GCFLIP_DONE && gcflip_set_number(&heap, 32, 7) == GCFLIP_OUT_OF_RANGE);
     EXPECT(gcflip_heap_look(&heap, 0, 15, &view) == GCFLIP_NUMBER && view.number == 7);
     EXPECT(gcflip_look(&heap, 16, &view) == GCFLIP_NIL && gcflip_look(&heap, 15, &view) == GCFLIP_NIL);
+    /* slots of mutators that the heap has not */
+    EXPECT(gcflip_look(&heap, 255, &view) == GCFLIP_OUT_OF_RANGE && gcflip_look(&heap, 256, &view) == GCFLIP_OUT_OF_RANGE);
+    EXPECT(gcflip_set_nil(&heap, 255) == GCFLIP_OUT_OF_RANGE && gcflip_copy(&heap, 256, 31) == GCFLIP_OUT_OF_RANGE && gcflip_copy(&heap, 31, 47) == GCFLIP_OUT_OF_RANGE);
     close_heap();
     open_heap_with(8, 1, 1048576, GCFLIP_ALONG);
     EXPECT(gcflip_set_number(&heap, 1048607, 8) == GCFLIP_DONE && gcflip_set_number(&heap, 1048608, 8) == GCFLIP_OUT_OF_RANGE);
@@ -71,11 +74,19 @@ static void many_slots(void)
     close_heap();
 }
 
-/* Expects that a peek gives this answer and sees this; where it gives no value, that it leaves the output alone. */
+/* Expects what a call returns. */
+static void returns(gcflip_seen seen, uint32_t answer, uint32_t kind, uint32_t count, uint64_t told)
+{
+    EXPECT(sizeof seen == 16 && seen.answer == answer && seen.kind == kind && seen.count == count && seen.number == told);
+}
+
+/* Expects that a peek gives this answer and sees this; where it gives no value, that it leaves the output alone, and returns none. */
 static void sees(uint32_t s, uint32_t i, uint32_t answer, uint32_t kind, uint32_t count, uint64_t seen)
 {
+    int is_value = answer >= GCFLIP_NIL;
     view = (gcflip_view){77, 77, 77};
     EXPECT(gcflip_peek(&heap, s, i, &view) == answer && view.kind == kind && view.count == count && view.number == seen);
+    returns(gcflip_peek_seen(&heap, s, i), answer, is_value ? kind : 0, is_value ? count : 0, is_value ? seen : 0);
 }
 
 /* Each reply, with roots of all three sorts. */
@@ -128,9 +139,78 @@ static void replies(void)
     close_heap();
 }
 
+/* A range of roots becomes nil, across slots of several mutators and extra roots, and no other root. */
+static void cleared(void)
+{
+    const uint32_t ranges[][2] = {{0, 0}, {5, 6}, {14, 18}, {30, SLOTS + 2}, {SLOTS + 3, SLOTS + 3}, {0, SLOTS + 8}};
+    open_heap_with(20, (SLOTS - 16) / 16, 8, GCFLIP_ALONG);
+    for (size_t k = 0; k < COUNT(ranges); k++) {
+        for (uint32_t p = 0; p < SLOTS + 8; p++)
+            EXPECT(gcflip_set_number(&heap, p, p) == GCFLIP_DONE);
+        EXPECT(gcflip_clear(&heap, ranges[k][0], ranges[k][1]) == GCFLIP_DONE);
+        for (uint32_t p = 0; p < SLOTS + 8; p++) {
+            int is_nil = p >= ranges[k][0] && p < ranges[k][1];
+            returns(gcflip_look_seen(&heap, p), is_nil ? GCFLIP_NIL : GCFLIP_NUMBER, 0, 0, is_nil ? 0 : p);
+        }
+    }
+    EXPECT(gcflip_set_number(&heap, 4, 9) == GCFLIP_DONE);
+    EXPECT(gcflip_clear(&heap, 5, 4) == GCFLIP_OUT_OF_RANGE && gcflip_clear(&heap, 0, SLOTS + 9) == GCFLIP_OUT_OF_RANGE);
+    EXPECT(gcflip_clear(&heap, SLOTS + 9, SLOTS + 9) == GCFLIP_OUT_OF_RANGE && gcflip_clear(&heap, UINT32_MAX, UINT32_MAX) == GCFLIP_OUT_OF_RANGE);
+    EXPECT(gcflip_clear(&heap, SLOTS + 8, SLOTS + 8) == GCFLIP_DONE && gcflip_clear(&heap, 0, UINT32_MAX) == GCFLIP_OUT_OF_RANGE);
+    returns(gcflip_look_seen(&heap, 4), GCFLIP_NUMBER, 0, 0, 9);
+    /* a reference that is gone keeps nothing alive, also while a collection is open */
+    EXPECT(gcflip_new(&heap, SLOTS + 7, KIND, 3) == GCFLIP_MADE && gcflip_copy(&heap, 3, SLOTS + 7) == GCFLIP_DONE);
+    EXPECT(gcflip_heap_step_begin(&heap) == GCFLIP_BEGUN && gcflip_clear(&heap, 0, SLOTS + 8) == GCFLIP_DONE);
+    EXPECT(gcflip_heap_work(&heap, 1000, &work) == GCFLIP_DONE && work.last == GCFLIP_FLIPPED && gcflip_room(&heap) == 19);
+    close_heap();
+    EXPECT(gcflip_clear(&heap, 0, 0) == GCFLIP_CLOSED && gcflip_clear(&heap, 1, 0) == GCFLIP_CLOSED);
+}
+
+/* What a look and a get return. A get does not tell of an object, and d takes the value. */
+static void returned(void)
+{
+    const uint32_t number_max = SLOTS + 1, pair = 20, raw = 3, d = SLOTS + 5;
+    open_heap(20, GCFLIP_ALONG);
+    EXPECT(gcflip_set_number(&heap, number_max, 9223372036854775807u) == GCFLIP_DONE && gcflip_new(&heap, pair, 255, 3) == GCFLIP_MADE);
+    EXPECT(gcflip_new_raw(&heap, raw, KIND, 2) == GCFLIP_MADE && gcflip_put(&heap, 0, pair, 0, number_max) == GCFLIP_DONE);
+    EXPECT(gcflip_put(&heap, 0, pair, 1, raw) == GCFLIP_DONE && gcflip_put_number(&heap, 0, raw, 1, 9) == GCFLIP_DONE);
+    returns(gcflip_look_seen(&heap, d), GCFLIP_NIL, 0, 0, 0);
+    returns(gcflip_look_seen(&heap, number_max), GCFLIP_NUMBER, 0, 0, 9223372036854775807u);
+    returns(gcflip_look_seen(&heap, pair), GCFLIP_OBJECT, 255, 3, 0);
+    returns(gcflip_look_seen(&heap, raw), GCFLIP_RAW_OBJECT, KIND, 2, 0);
+    EXPECT(gcflip_put(&heap, 1, raw, 0, number_max) == GCFLIP_DONE && gcflip_new(&heap, 4, 7, 1) == GCFLIP_MADE && gcflip_put(&heap, 1, 4, 0, pair) == GCFLIP_DONE);
+    returns(gcflip_peek_seen(&heap, pair, 0), GCFLIP_NUMBER, 0, 0, 9223372036854775807u);
+    returns(gcflip_peek_seen(&heap, pair, 1), GCFLIP_RAW_OBJECT, KIND, 2, 0);
+    returns(gcflip_peek_seen(&heap, pair, 2), GCFLIP_NIL, 0, 0, 0);
+    returns(gcflip_peek_seen(&heap, pair, 3), GCFLIP_NO_FIELD, 0, 0, 0);
+    returns(gcflip_peek_seen(&heap, 4, 0), GCFLIP_OBJECT, 255, 3, 0);
+    returns(gcflip_peek_seen(&heap, number_max, 0), GCFLIP_NO_OBJECT, 0, 0, 0);
+    returns(gcflip_field_at_seen(&heap, 1, 0), GCFLIP_NUMBER, 0, 0, 9223372036854775807u);
+    returns(gcflip_field_at_seen(&heap, 1, 1), GCFLIP_RAW_OBJECT, KIND, 2, 6);
+    returns(gcflip_field_at_seen(&heap, 1, 2), GCFLIP_NIL, 0, 0, 0);
+    returns(gcflip_field_at_seen(&heap, 1, 3), GCFLIP_NO_FIELD, 0, 0, 0);
+    returns(gcflip_field_at_seen(&heap, 10, 0), GCFLIP_OBJECT, 255, 3, 1);
+    returns(gcflip_get_seen(&heap, d, pair, 0), GCFLIP_NUMBER, 0, 0, 9223372036854775807u);
+    EXPECT(gcflip_same(&heap, d, number_max) == GCFLIP_SAME);
+    returns(gcflip_get_seen(&heap, d, pair, 1), GCFLIP_OBJECT, 0, 0, 0); /* raw, which get does not show */
+    EXPECT(gcflip_same(&heap, d, raw) == GCFLIP_SAME);
+    returns(gcflip_get_seen(&heap, d, d, 1), GCFLIP_NUMBER, 0, 0, 9);
+    returns(gcflip_get_seen(&heap, d, pair, 3), GCFLIP_NO_FIELD, 0, 0, 0);
+    returns(gcflip_get_seen(&heap, d, pair, 65536), GCFLIP_NO_FIELD, 0, 0, 0);
+    returns(gcflip_get_seen(&heap, d, d, 0), GCFLIP_NO_OBJECT, 0, 0, 0);
+    holds(d, 9);
+    returns(gcflip_get_seen(&heap, d, pair, 2), GCFLIP_NIL, 0, 0, 0);
+    EXPECT(gcflip_look(&heap, d, &view) == GCFLIP_NIL);
+    close_heap();
+}
+
 /* Each number beyond the last place, for each operand. An output is left alone. */
 static void refused_places(uint32_t p)
 {
+    returns(gcflip_get_seen(&heap, p, 0, 1), GCFLIP_OUT_OF_RANGE, 0, 0, 0);
+    returns(gcflip_get_seen(&heap, 2, p, 1), GCFLIP_OUT_OF_RANGE, 0, 0, 0);
+    returns(gcflip_peek_seen(&heap, p, 1), GCFLIP_OUT_OF_RANGE, 0, 0, 0);
+    returns(gcflip_look_seen(&heap, p), GCFLIP_OUT_OF_RANGE, 0, 0, 0);
     const gcflip_view before = {77, 77, 77};
     view = before;
     number = 77;
@@ -279,8 +359,13 @@ static void walk(uint8_t checking)
     EXPECT(gcflip_object_at(&heap, 1, &view) == GCFLIP_OBJECT && view.kind == KIND && view.count == 3 && view.number == 0);
     EXPECT(gcflip_object_at(&heap, 6, &view) == GCFLIP_RAW_OBJECT && view.kind == 255 && view.count == 2);
     EXPECT(gcflip_object_at(&heap, 10, &view) == GCFLIP_OBJECT && view.kind == KIND + 1 && view.count == 0);
-    for (uint32_t a = 0; a < 70; a++)
+    returns(gcflip_object_at_seen(&heap, 1), GCFLIP_OBJECT, KIND, 3, 0);
+    returns(gcflip_object_at_seen(&heap, 6), GCFLIP_RAW_OBJECT, 255, 2, 0);
+    returns(gcflip_object_at_seen(&heap, UINT32_MAX), GCFLIP_NIL, 0, 0, 0);
+    for (uint32_t a = 0; a < 70; a++) {
         met += gcflip_object_at(&heap, a, &view) != GCFLIP_NIL;
+        EXPECT((gcflip_object_at_seen(&heap, a).answer == GCFLIP_NIL) == (a != 1 && a != 6 && a != 10));
+    }
     EXPECT(met == 3 && gcflip_object_at(&heap, UINT32_MAX, &view) == GCFLIP_NIL && gcflip_object_at(&heap, 1u << 31, &view) == GCFLIP_NIL);
     EXPECT(gcflip_heap_work(&heap, 1000, &work) == GCFLIP_DONE && work.last == GCFLIP_FLIPPED);
     met = 0;
@@ -296,6 +381,7 @@ static void room(void)
 {
     open_heap_with(20, 1, 0, GCFLIP_ALONG);
     EXPECT(gcflip_room(&heap) == 19 && gcflip_new(&heap, 0, KIND, 3) == GCFLIP_MADE && gcflip_room(&heap) == 14);
+    EXPECT(gcflip_words_of(3) == 5 && gcflip_words_of(0) == 2 && gcflip_words_of(65535) == 65537);
     EXPECT(gcflip_heap_step_begin(&heap) == GCFLIP_BEGUN && gcflip_room(&heap) == 14);
     EXPECT(gcflip_new(&heap, 0, KIND, 13) == GCFLIP_FULL && gcflip_room(&heap) == 14);
     EXPECT(gcflip_new(&heap, 0, KIND, 12) == GCFLIP_MADE && gcflip_room(&heap) == 0);
@@ -423,6 +509,11 @@ static void closed(void)
         EXPECT(gcflip_same(&heap, p, p) == GCFLIP_CLOSED);
         EXPECT(gcflip_look(&heap, p, &view) == GCFLIP_CLOSED);
         EXPECT(gcflip_object_at(&heap, p, &view) == GCFLIP_CLOSED);
+        returns(gcflip_get_seen(&heap, p, p, p), GCFLIP_CLOSED, 0, 0, 0);
+        returns(gcflip_peek_seen(&heap, p, p), GCFLIP_CLOSED, 0, 0, 0);
+        returns(gcflip_look_seen(&heap, p), GCFLIP_CLOSED, 0, 0, 0);
+        returns(gcflip_object_at_seen(&heap, p), GCFLIP_CLOSED, 0, 0, 0);
+        returns(gcflip_field_at_seen(&heap, p, p), GCFLIP_CLOSED, 0, 0, 0);
     }
     EXPECT(number == 77 && memcmp(&view, &before, sizeof view) == 0 && heap.at == NULL && gcflip_room(&heap) == 0);
 }
@@ -433,6 +524,8 @@ int main(void)
     roots();
     many_slots();
     replies();
+    cleared();
+    returned();
     refusals();
     long_object();
     logs();

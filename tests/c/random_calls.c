@@ -1,6 +1,6 @@
 /* Performs the calls on standard input, a line each, and prints a line for each: random_calls [RECORD].
-   Compiled with -DRECORD, it records the run into RECORD. Compiled with -DBASIC, it has no moved addresses and no references by
-   address, which the heap in plain C lacks. tests/program/random_calls.py makes the calls and knows the lines.
+   Compiled with -DRECORD, it records the run into RECORD. Compiled with -DBASIC, it has no calls that reserve room, and no numbers of
+   raw objects by places, which the heap in plain C lacks. tests/program/random_calls.py makes the calls and knows the lines.
 
    Outputs that a call must leave alone are compared with what they held before. */
 #ifdef RECORD
@@ -60,10 +60,34 @@ static void look(uint8_t m, uint8_t s)
     print_look(answer, view);
 }
 
+/* Writes to `view` what a call returned, as another call writes it, and returns the answer. If it saw nothing, its members are 0. */
+static uint32_t written(gcflip_seen seen, gcflip_view *view)
+{
+    if (seen.answer >= GCFLIP_NIL && seen.answer <= GCFLIP_RAW_OBJECT)
+        *view = (gcflip_view){seen.kind, seen.count, seen.number};
+    else
+        EXPECT(seen.kind == 0 && seen.count == 0 && seen.number == 0);
+    return seen.answer;
+}
+
+/* Expects that a call returned what another one wrote. */
+static void expect_seen(gcflip_seen seen, uint32_t answer, gcflip_view view)
+{
+    gcflip_view same = {KEPT_32, KEPT_32, KEPT};
+    EXPECT(written(seen, &same) == answer && same.kind == view.kind && same.count == view.count && same.number == view.number);
+}
+
+/* Whether the next look or get returns what it sees, as every other one does. A recording has one line for each. */
+static bool next_returns(void)
+{
+    static bool returns;
+    return returns = !returns;
+}
+
 static void place_look(uint32_t s)
 {
     gcflip_view view = {KEPT_32, KEPT_32, KEPT};
-    uint32_t answer = gcflip_look(&heap, s, &view);
+    uint32_t answer = next_returns() ? written(gcflip_look_seen(&heap, s), &view) : gcflip_look(&heap, s, &view);
     print_look(answer, view);
 }
 
@@ -89,14 +113,16 @@ static void place_peek(uint32_t s, uint32_t i)
 {
     gcflip_view view = {KEPT_32, KEPT_32, KEPT};
     uint32_t answer = gcflip_peek(&heap, s, i, &view);
+    expect_seen(gcflip_peek_seen(&heap, s, i), answer, view);
     print_look(answer, view);
 }
 
 static void place_get(uint32_t d, uint32_t s, uint32_t i)
 {
-    uint64_t number = KEPT;
-    uint32_t answer = gcflip_get(&heap, d, s, i, &number);
-    print_get(answer, number);
+    gcflip_view view = {0, 0, KEPT};
+    uint32_t answer = next_returns() ? written(gcflip_get_seen(&heap, d, s, i), &view) : gcflip_get(&heap, d, s, i, &view.number);
+    EXPECT(view.kind == 0 && view.count == 0 && (answer == GCFLIP_NUMBER || view.number == 0 || view.number == KEPT));
+    print_get(answer, answer == GCFLIP_NUMBER ? view.number : KEPT);
 }
 
 static void flip(void)
@@ -362,6 +388,31 @@ static uint32_t place_write_words(size_t read)
     return gcflip_words_write(&heap, (uint32_t)a[0], (uint32_t)a[1], (uint32_t)a[2], words, read - 3);
 }
 
+#ifndef BASIC
+/* Writes the numbers from the fourth on into fields of a raw object. */
+static uint32_t place_raw_write(size_t read)
+{
+    static uint64_t words[MOST];
+    for (size_t k = 3; k < read; k++)
+        words[k - 3] = a[k];
+    return gcflip_raw_write(&heap, (uint32_t)a[0], (uint32_t)a[1], (uint32_t)a[2], words, read - 3);
+}
+
+/* Prints the numbers in some fields of a raw object. */
+static void place_raw_read(void)
+{
+    static uint64_t words[MOST];
+    EXPECT(a[2] < MOST);
+    words[a[2]] = 77;
+    const uint32_t answer = gcflip_raw_read(&heap, (uint32_t)a[0], (uint32_t)a[1], words, a[2]);
+    EXPECT(words[a[2]] == 77);
+    if (answer == GCFLIP_DONE)
+        print_words("read", words, a[2], words, 0);
+    else
+        printf("%s\n", reply(answer));
+}
+#endif
+
 /* Prints all words of a vector. */
 static void place_words(uint32_t s)
 {
@@ -381,11 +432,11 @@ static void place_words(uint32_t s)
     printf("\n");
 }
 
-#ifndef BASIC
 static void object_at(uint32_t address)
 {
     gcflip_view view = {KEPT_32, KEPT_32, KEPT};
     uint32_t answer = gcflip_object_at(&heap, address, &view);
+    expect_seen(gcflip_object_at_seen(&heap, address), answer, view);
     print_look(answer, view);
 }
 
@@ -394,6 +445,7 @@ static void field_at(uint32_t address, uint32_t i)
 {
     gcflip_view view = {KEPT_32, KEPT_32, KEPT};
     uint32_t answer = gcflip_field_at(&heap, address, i, &view);
+    expect_seen(gcflip_field_at_seen(&heap, address, i), answer, view);
     if (answer == GCFLIP_OBJECT || answer == GCFLIP_RAW_OBJECT) {
         printf("at %u, ", (unsigned)view.number);
         view.number = 0;
@@ -464,7 +516,6 @@ static void moved(uint32_t old)
     EXPECT(gcflip_moved(&heap, old, &again) == answer && again == found);
     print_address("moved", answer, found);
 }
-#endif
 
 static uint32_t open_heap(void)
 {
@@ -507,17 +558,19 @@ static uint32_t by_places(const char *name, size_t read)
     if (IS("place_spread")) return gcflip_spread(&heap, d, s, i);
     if (IS("place_num")) return gcflip_set_number(&heap, d, a[1]);
     if (IS("place_nil")) return gcflip_set_nil(&heap, d);
+    if (IS("place_clear")) return gcflip_clear(&heap, d, s);
     if (IS("place_copy")) return gcflip_copy(&heap, d, s);
     if (IS("place_put")) return gcflip_put(&heap, d, s, i, (uint32_t)a[3]);
     if (IS("place_put_number")) return gcflip_put_number(&heap, d, s, i, a[3]);
     if (IS("place_put_nil")) return gcflip_put_nil(&heap, d, s, i);
     if (IS("place_write_words")) return place_write_words(read);
-#ifndef BASIC
     if (IS("place_refer")) return gcflip_refer(&heap, d, s);
     if (IS("place_new_bytes")) return place_new_bytes(read);
     if (IS("place_join")) return gcflip_bytes_join(&heap, d, s, i, (uint32_t)a[3], (uint32_t)a[4]);
     if (IS("place_write")) return place_write(read);
     if (IS("place_part")) return gcflip_bytes_part(&heap, d, s, i, (uint32_t)a[3], (uint32_t)a[4], (uint32_t)a[5]);
+#ifndef BASIC
+    if (IS("place_raw_write")) return place_raw_write(read);
 #endif
     EXPECT(IS("place_same"));
     return gcflip_same(&heap, d, s);
@@ -549,9 +602,7 @@ static uint32_t plain(const char *name)
     if (IS("root_load")) return gcflip_heap_root_load(&heap, m, d, (uint32_t)a[2]);
     if (IS("root_store")) return gcflip_heap_root_store(&heap, m, (uint32_t)a[1], (uint8_t)a[2]);
     if (IS("root_clear")) return gcflip_heap_root_clear(&heap, (uint32_t)a[0], (uint32_t)a[1]);
-#ifndef BASIC
     if (IS("refer")) return gcflip_heap_refer(&heap, m, d, (uint32_t)a[2]);
-#endif
     EXPECT(IS("drop"));
     return gcflip_heap_step_give_up(&heap);
 }
@@ -566,10 +617,11 @@ static void perform(const char *name, size_t read)
     else if (IS("room")) printf("room %u\n", gcflip_room(&heap));
     else if (IS("place_get")) place_get((uint32_t)a[0], (uint32_t)a[1], (uint32_t)a[2]);
     else if (IS("place_words")) place_words((uint32_t)a[0]);
-#ifndef BASIC
     else if (IS("place_address")) place_address((uint32_t)a[0]);
     else if (IS("place_text")) place_text((uint32_t)a[0]);
     else if (IS("place_order")) place_order((uint32_t)a[0], (uint32_t)a[1]);
+#ifndef BASIC
+    else if (IS("place_raw_read")) place_raw_read();
 #endif
     else if (strncmp(name, "frame_", 6) == 0) frame(name);
     else if (strncmp(name, "place_", 6) == 0) printf("%s\n", reply(by_places(name, read)));
@@ -589,10 +641,10 @@ static void perform(const char *name, size_t read)
     else if (IS("work_within")) work((uint32_t)a[0], NO_BOUND, a[1]);
     else if (IS("pace")) set_pace();
     else if (IS("work_paced")) work_paced((uint32_t)a[0]);
-#ifndef BASIC
     else if (IS("moved")) moved((uint32_t)a[0]);
     else if (IS("object_at")) object_at((uint32_t)a[0]);
     else if (IS("field_at")) field_at((uint32_t)a[0], (uint32_t)a[1]);
+#ifndef BASIC
     else if (IS("reserve")) reserve((uint32_t)a[0]);
     else if (IS("collect")) collect();
     else if (IS("release")) printf("%s\n", reply(gcflip_release(&heap)));

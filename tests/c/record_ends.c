@@ -93,6 +93,9 @@ static void call_with_spares(int call)
         EXPECT(gcflip_spread(&heap, 32, OBJECT, 1) == GCFLIP_DONE);
     if (call == 19)
         EXPECT(gcflip_words_write(&heap, 0, RAW, 0, &number, 1) == GCFLIP_DONE);
+    number = 5;
+    if (call == 20)
+        EXPECT(gcflip_raw_write(&heap, 0, RAW, 0, &number, 1) == GCFLIP_DONE);
 }
 
 /* Performs one of the calls on roots that a trace has not. */
@@ -130,7 +133,7 @@ static void call_beyond(int call)
         EXPECT(gcflip_gather(&heap, 0, 0, 1, FAR, 1) == GCFLIP_MADE);
 }
 
-enum { WITH_SPARES = 20, BEYOND = 12 };
+enum { WITH_SPARES = 21, BEYOND = 12 };
 
 /* Opens heaps with extra roots, and ends their recordings in each way. Lines that a call wrote before are the last ones. */
 static void end_recordings(void)
@@ -260,6 +263,8 @@ static void make_calls_by_places(bool is_recorded)
     REPLIES(gcflip_set_number(&heap, 34, 5), GCFLIP_DONE, is_recorded);
     REPLIES(gcflip_put(&heap, 0, 35, 0, 34), GCFLIP_DONE, is_recorded);
     REPLIES(gcflip_get(&heap, 33, 35, 0, &number), GCFLIP_NUMBER, is_recorded);
+    REPLIES(gcflip_get_seen(&heap, 33, 35, 0).answer, GCFLIP_NUMBER, is_recorded);
+    REPLIES(gcflip_look_seen(&heap, 33).answer, GCFLIP_NUMBER, is_recorded);
     REPLIES(gcflip_put_nil(&heap, 0, 35, 0), GCFLIP_DONE, is_recorded);
     REPLIES(gcflip_put_number(&heap, 0, 35, 0, 6), GCFLIP_DONE, is_recorded);
     EXPECT(gcflip_peek(&heap, 35, 0, &view) == GCFLIP_NUMBER && view.number == 6);
@@ -280,11 +285,13 @@ static void make_calls_by_places(bool is_recorded)
     REPLIES(gcflip_bytes_write(&heap, 0, 34, 1, (const uint8_t *)"x", 1), GCFLIP_DONE, is_recorded);
     REPLIES(gcflip_new_raw(&heap, 33, 1, 2), GCFLIP_MADE, is_recorded);
     REPLIES(gcflip_words_write(&heap, 0, 33, 0, &number, 1), GCFLIP_DONE, is_recorded);
+    REPLIES(gcflip_raw_write(&heap, 0, 33, 1, &number, 1), GCFLIP_DONE, is_recorded);
     REPLIES(gcflip_gather(&heap, 0, 35, 1, 32, 3), GCFLIP_MADE, is_recorded);
     REPLIES(gcflip_spread(&heap, 32, 35, 3), GCFLIP_DONE, is_recorded);
     REPLIES(gcflip_safepoint(&heap, &pace), GCFLIP_DONE, false); /* nothing is due */
     EXPECT(number == 5 && view.number == 5);
     REPLIES(gcflip_heap_root_clear(&heap, 0, 4), GCFLIP_DONE, is_recorded);
+    REPLIES(gcflip_clear(&heap, 32, 36), GCFLIP_DONE, is_recorded);
 }
 
 /* Makes references of addresses, which have no lines. */

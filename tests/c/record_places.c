@@ -53,7 +53,13 @@ static void look(void)
 {
     static const char *const names[] = {"obj", "raw"};
     gcflip_view view;
-    uint32_t answer = gcflip_look(&heap, any_root(), &view);
+    uint32_t answer;
+    if (below(2)) {
+        gcflip_seen seen = gcflip_look_seen(&heap, any_root());
+        answer = seen.answer;
+        view = (gcflip_view){seen.kind, seen.count, seen.number};
+    } else
+        answer = gcflip_look(&heap, any_root(), &view);
     if (answer == GCFLIP_NIL)
         printf("saw nil\n");
     else if (answer == GCFLIP_NUMBER)
@@ -143,11 +149,12 @@ static uint32_t perform(uint32_t call)
     case 7:
         return gcflip_set_number(&heap, any_root(), state >> 1);
     case 8:
-        return gcflip_set_nil(&heap, any_root());
+        from = 16 + below(PLACES - 20);
+        return below(2) ? gcflip_set_nil(&heap, any_root()) : gcflip_clear(&heap, from, from + below(3));
     case 9:
         return gcflip_copy(&heap, any_root(), any_root());
     case 10:
-        return gcflip_get(&heap, any_root(), any_root(), length(), &number);
+        return below(2) ? gcflip_get(&heap, any_root(), any_root(), length(), &number) : gcflip_get_seen(&heap, any_root(), any_root(), length()).answer;
     case 11:
         return gcflip_put(&heap, any_mutator(), any_root(), length(), any_root());
     case 12:
@@ -186,12 +193,16 @@ static uint32_t perform(uint32_t call)
         return gcflip_heap_put_number(&heap, any_mutator(), any_slot(), (uint16_t)length(), 15, state >> 1);
     case 30:
         return gcflip_words_write(&heap, any_mutator(), any_root(), below(2), words, below(3));
+    case 31:
+        words[0] >>= 1;
+        words[1] >>= 1;
+        return gcflip_raw_write(&heap, any_mutator(), any_root(), below(2), words, below(3));
     default:
         return work();
     }
 }
 
-enum { KINDS = 33 };
+enum { KINDS = 34 };
 
 int main(int count, char **words)
 {

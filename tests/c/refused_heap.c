@@ -129,6 +129,11 @@ static uint32_t write_words(void)
     static const uint64_t words[39] = {1, UINT64_MAX};
     return gcflip_words_write(&heap, 0, 18, 0, words, 39);
 }
+static uint32_t write_raws(void)
+{
+    static const uint64_t numbers[40] = {1, 2, 3};
+    return gcflip_raw_write(&heap, 0, 18, 0, numbers, 40);
+}
 static uint32_t fill(void) { return gcflip_fill(&heap, 0, 18, 0, 40, 17); }
 static uint32_t copy_fields_at(void) { return gcflip_copy_fields(&heap, 0, 18, 0, 18, 20, 20); }
 static uint32_t pair_at(void) { return gcflip_new_pair(&heap, 0, 17, 1, 16, 16); }
@@ -310,10 +315,12 @@ static void command_by_places(void)
     EXPECT(gcflip_bytes_length(&heap, 1, &length) == GCFLIP_DONE && length == 0);
     EXPECT(gcflip_bytes_read(&heap, 1, 0, &byte, 0) == GCFLIP_DONE && gcflip_bytes_same(&heap, 1, 1) == GCFLIP_SAME);
     EXPECT(gcflip_bytes_compare(&heap, 1, 1, &order) == GCFLIP_DONE && order == 0);
-    EXPECT(gcflip_words_read(&heap, 1, 0, &number, 0) == GCFLIP_DONE);
+    EXPECT(gcflip_words_read(&heap, 1, 0, &number, 0) == GCFLIP_DONE && gcflip_raw_read(&heap, 1, 0, &number, 0) == GCFLIP_DONE);
     EXPECT(gcflip_set_nil(&heap, 1) == GCFLIP_DONE);
     EXPECT(gcflip_get(&heap, 0, extra, 0, &number) == GCFLIP_NIL);
     EXPECT(gcflip_peek(&heap, extra, 0, &view) == GCFLIP_NIL);
+    EXPECT(gcflip_get_seen(&heap, 0, extra, 0).answer == GCFLIP_NIL && gcflip_peek_seen(&heap, extra, 0).answer == GCFLIP_NIL);
+    EXPECT(gcflip_look_seen(&heap, extra).answer == GCFLIP_OBJECT && gcflip_clear(&heap, 0, 2) == GCFLIP_DONE);
     EXPECT(gcflip_set_nil(&heap, 0) == GCFLIP_DONE && gcflip_room(&heap) > 0);
     EXPECT(gcflip_set_number(&heap, 0, 5) == GCFLIP_DONE);
     EXPECT(gcflip_copy(&heap, extra, 0) == GCFLIP_DONE);
@@ -336,6 +343,7 @@ static void read_all(void)
     EXPECT(gcflip_heap_address(&heap, 0, 2, &address) == GCFLIP_DONE);
     EXPECT(gcflip_address(&heap, 18, &address) == GCFLIP_DONE);
     EXPECT(gcflip_object_at(&heap, address, &view) == GCFLIP_RAW_OBJECT && gcflip_field_at(&heap, address, 0, &view) == GCFLIP_NUMBER);
+    EXPECT(gcflip_object_at_seen(&heap, address).answer == GCFLIP_RAW_OBJECT && gcflip_field_at_seen(&heap, address, 0).answer == GCFLIP_NUMBER);
     EXPECT(gcflip_heap_moved(&heap, address, &address) == GCFLIP_OUT_OF_RANGE && gcflip_moved(&heap, address, &address) == GCFLIP_OUT_OF_RANGE);
     EXPECT(gcflip_release(&heap) == GCFLIP_BUSY && gcflip_refer(&heap, 18, address) == GCFLIP_DONE);
     EXPECT(gcflip_heap_pace(&heap, &pace) == GCFLIP_DONE);
@@ -496,6 +504,8 @@ static void allocations(int tables, int flipping)
     EXPECT(failures(set_up_raw_open, write_words) == 1);
     EXPECT(failures(set_up_fill, fill) == 0);
     EXPECT(failures(set_up_fill_open, fill) == 1);
+    EXPECT(failures(set_up_raw, write_raws) == 0);
+    EXPECT(failures(set_up_raw_open, write_raws) == 1);
     EXPECT(failures(set_up_raw, copy_fields_at) == 0);
     EXPECT(failures(set_up_raw_open, copy_fields_at) == 1);
     sure_puts();

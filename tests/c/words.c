@@ -1,11 +1,12 @@
 /* Tests vectors of 64-bit words in raw objects: how their fields are spelled, each place within a vector, each answer, and vectors that are written while a
- * collection is open. */
+ * collection is open. Tests the same of the numbers in their fields, many at once. */
 
 enum { KIND = 3, MUTATORS = 2, EXTRA = 4, STEPS = 3, MOST = 200 };
 
 #include "by_places.h"
 
 static uint64_t words[GCFLIP_MOST_WORDS + 1], found[GCFLIP_MOST_WORDS + 1], wanted[GCFLIP_MOST_WORDS + 1];
+static const uint64_t five = 5;
 
 /* Fills `words` with numbers of which those with the top bit are as many as the others, and whose ends are the extremes. */
 static void fill_words(void)
@@ -141,11 +142,30 @@ static void refused_places(uint32_t p)
     found[0] = 77;
     EXPECT(gcflip_words_read(&heap, p, 0, found, 1) == GCFLIP_OUT_OF_RANGE && found[0] == 77);
     EXPECT(gcflip_words_write(&heap, 0, p, 0, words, 1) == GCFLIP_OUT_OF_RANGE && gcflip_words_write(&heap, p, 16, 0, words + 1, 1) == GCFLIP_OUT_OF_RANGE);
+    EXPECT(gcflip_raw_read(&heap, p, 0, found, 1) == GCFLIP_OUT_OF_RANGE && found[0] == 77);
+    EXPECT(gcflip_raw_write(&heap, 0, p, 0, &five, 1) == GCFLIP_OUT_OF_RANGE && gcflip_raw_write(&heap, p, 16, 0, &five, 1) == GCFLIP_OUT_OF_RANGE);
+}
+
+static void refused_raws(void)
+{
+    const uint64_t large[] = {5, 1ull << 63};
+    found[0] = 77;
+    for (uint32_t p = 0; p < 3; p++) {
+        EXPECT(gcflip_raw_read(&heap, p, 0, found, 0) == GCFLIP_NO_OBJECT && gcflip_raw_read(&heap, p, 0, found, 1) == GCFLIP_NO_OBJECT);
+        EXPECT(gcflip_raw_write(&heap, 0, p, 0, &five, 0) == GCFLIP_NO_OBJECT && gcflip_raw_write(&heap, 0, p, 0, large, 2) == GCFLIP_NO_OBJECT);
+    }
+    EXPECT(gcflip_raw_read(&heap, 16, 0, found, 32) == GCFLIP_NO_FIELD && gcflip_raw_read(&heap, 16, 31, found, 1) == GCFLIP_NO_FIELD);
+    EXPECT(gcflip_raw_read(&heap, 16, 32, found, 0) == GCFLIP_NO_FIELD && gcflip_raw_read(&heap, 16, 65536, found, 1) == GCFLIP_NO_FIELD);
+    EXPECT(gcflip_raw_read(&heap, 16, UINT32_MAX, found, 1) == GCFLIP_NO_FIELD && found[0] == 77);
+    EXPECT(gcflip_raw_write(&heap, 0, 16, 30, large, 2) == GCFLIP_NO_FIELD && gcflip_raw_write(&heap, 0, 16, 32, large, 0) == GCFLIP_NO_FIELD);
+    EXPECT(gcflip_raw_write(&heap, 0, 16, 65536, &five, 1) == GCFLIP_NO_FIELD && gcflip_raw_write(&heap, 0, 16, UINT32_MAX, &five, 1) == GCFLIP_NO_FIELD);
+    EXPECT(gcflip_raw_write(&heap, 0, 16, 29, large, 2) == GCFLIP_NO_NUMBER && gcflip_raw_write(&heap, 0, 16, 30, large + 1, 1) == GCFLIP_NO_NUMBER);
+    EXPECT(gcflip_raw_write(&heap, MUTATORS, 16, 0, &five, 1) == GCFLIP_OUT_OF_RANGE && gcflip_raw_write(&heap, 256, 16, 0, &five, 1) == GCFLIP_OUT_OF_RANGE);
 }
 
 static void refused_numbers(void)
 {
-    found[0] = 77;
+    refused_raws();
     for (uint32_t p = 0; p < 3; p++) { /* nil, a number, an object that is not raw */
         EXPECT(gcflip_words_read(&heap, p, 0, found, 0) == GCFLIP_NO_OBJECT && gcflip_words_read(&heap, p, 0, found, 1) == GCFLIP_NO_OBJECT);
         EXPECT(gcflip_words_write(&heap, 0, p, 0, words, 0) == GCFLIP_NO_OBJECT && gcflip_words_write(&heap, 0, p, 0, words + 1, 1) == GCFLIP_NO_OBJECT);
@@ -193,6 +213,50 @@ static void while_open(uint8_t checking, uint32_t steps)
     close_heap();
 }
 
+/* Numbers below 2^63, in each part of an object with so many fields. */
+static void raws(uint32_t count)
+{
+    open_heap(2 * MOST, GCFLIP_ALONG);
+    EXPECT(gcflip_new_raw(&heap, 16, KIND, count) == GCFLIP_MADE && gcflip_look(&heap, 0, &view) == GCFLIP_NIL);
+    for (uint32_t at = 0; at <= count; at++)
+        for (uint32_t n = 0; n <= count - at; n += 1 + n / 5) {
+            for (uint32_t i = 0; i < count; i++)
+                wanted[i] = words[i] >> 1;
+            EXPECT(gcflip_raw_write(&heap, 0, 16, 0, wanted, count) == GCFLIP_DONE);
+            for (uint32_t i = at; i < at + n; i++)
+                wanted[i] = words[i + MOST] >> 1;
+            EXPECT(gcflip_raw_write(&heap, 1, 16, at, wanted + at, n) == GCFLIP_DONE);
+            for (uint32_t i = 0; i < count; i++)
+                EXPECT(gcflip_peek(&heap, 16, i, &view) == GCFLIP_NUMBER && view.number == wanted[i]);
+            found[n] = 77;
+            EXPECT(gcflip_raw_read(&heap, 16, at, found, n) == GCFLIP_DONE && memcmp(found, wanted + at, 8 * n) == 0 && found[n] == 77);
+        }
+    EXPECT(gcflip_look(&heap, 0, &view) == GCFLIP_NIL && gcflip_look(&heap, 16, &view) == GCFLIP_RAW_OBJECT && view.kind == KIND && view.count == count);
+    close_heap();
+}
+
+/* While a collection is open that has made so many steps, each number is logged in the mutator's log, in order, and a flip sees them. */
+static void raws_while_open(uint8_t checking, uint32_t steps)
+{
+    const uint64_t three[] = {7, 0, (1ull << 63) - 1};
+    gcflip_log_entry entry;
+    size_t logged = 77;
+    open_heap(MOST, checking);
+    EXPECT(gcflip_new_raw(&heap, 16, KIND, 9) == GCFLIP_MADE); /* at 1 */
+    EXPECT(gcflip_heap_step_begin(&heap) == GCFLIP_BEGUN);
+    for (uint32_t k = 0; k < steps; k++)
+        EXPECT(gcflip_heap_work(&heap, 1, &work) == GCFLIP_DONE && work.last != GCFLIP_FLIPPED);
+    EXPECT(gcflip_raw_write(&heap, 1, 16, 6, three, 3) == GCFLIP_DONE && gcflip_raw_write(&heap, 0, 16, 9, three, 0) == GCFLIP_DONE);
+    EXPECT(gcflip_heap_log_length(&heap, 0, &logged) == GCFLIP_DONE && logged == 0);
+    EXPECT(gcflip_heap_log_length(&heap, 1, &logged) == GCFLIP_DONE && logged == 3);
+    for (uint16_t k = 0; k < 3; k++)
+        EXPECT(gcflip_heap_log_entry(&heap, 1, k, &entry) == GCFLIP_DONE && entry.object == 1 && entry.field == 6u + k);
+    EXPECT(gcflip_heap_work(&heap, 1000, &work) == GCFLIP_DONE && work.last == GCFLIP_FLIPPED && work.pairs == 1);
+    EXPECT(gcflip_raw_read(&heap, 16, 6, found, 3) == GCFLIP_DONE && memcmp(found, three, sizeof three) == 0);
+    EXPECT(gcflip_raw_read(&heap, 16, 5, found, 1) == GCFLIP_DONE && found[0] == 0);
+    close_heap();
+}
+
 /* A handle without a heap, before it is opened and after it is closed. */
 static void closed(void)
 {
@@ -200,6 +264,7 @@ static void closed(void)
     for (size_t k = 0; k < COUNT(beyond); k++) {
         const uint32_t p = beyond[k];
         EXPECT(gcflip_words_read(&heap, p, p, found, 1) == GCFLIP_CLOSED && gcflip_words_write(&heap, p, p, p, words, 1) == GCFLIP_CLOSED);
+        EXPECT(gcflip_raw_read(&heap, p, p, found, 1) == GCFLIP_CLOSED && gcflip_raw_write(&heap, p, p, p, &five, 1) == GCFLIP_CLOSED);
     }
     EXPECT(heap.at == NULL && found[0] == 77);
 }
@@ -211,15 +276,19 @@ int main(void)
     closed();
     for (size_t k = 0; k < COUNT(counts_of); k++)
         whole(counts_of[k]);
-    for (size_t k = 0; k < COUNT(counts_of); k++)
+    for (size_t k = 0; k < COUNT(counts_of); k++) {
         parts(counts_of[k]);
+        raws(counts_of[k]);
+    }
     longest();
     made_otherwise();
     doubles();
     refusals();
     for (uint8_t checking = GCFLIP_ALONG; checking <= GCFLIP_AT_FLIP; checking++)
-        for (uint32_t steps = 0; steps < STEPS; steps++)
+        for (uint32_t steps = 0; steps < STEPS; steps++) {
             while_open(checking, steps);
+            raws_while_open(checking, steps);
+        }
     closed();
     return 0;
 }

@@ -18,11 +18,9 @@ static bool push(gcflip_heap *heap, uint64_t number)
 /* Returns the sum of the list's numbers. Afterwards the list is empty. */
 static uint64_t sum_of_list(gcflip_heap *heap)
 {
-    uint64_t sum = 0, number = 0;
-    while (gcflip_get(heap, NUMBER, LIST, 0, &number) == GCFLIP_NUMBER) {
-        sum += number;
-        gcflip_get(heap, LIST, LIST, 1, &number);
-    }
+    uint64_t sum = 0;
+    for (; gcflip_look_seen(heap, LIST).answer == GCFLIP_OBJECT; gcflip_get_seen(heap, LIST, LIST, 1))
+        sum += gcflip_peek_seen(heap, LIST, 0).number;
     return sum;
 }
 

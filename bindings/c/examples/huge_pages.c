@@ -9,12 +9,13 @@
 #define _DEFAULT_SOURCE /* for madvise */
 #include <gcflip_allocator.h>
 #include <malloc.h>
+#include <stdbool.h>
 #include <stdint.h>
 #include <stdlib.h>
 #include <string.h>
 #include <sys/mman.h>
 
-static const size_t HUGE_PAGE = (size_t)2 << 20;
+static const size_t HUGE_PAGE = (size_t)2 << 20, SMALL_PAGE = 4096;
 
 /* Returns the block at this address, or a refusal if it is NULL. */
 static struct gcflip_memory memory_at(void *at)
@@ -63,13 +64,31 @@ struct gcflip_memory rattle_alloc(size_t size, size_t alignment)
     return memory_at(size < HUGE_PAGE ? malloc(at_least_one(size)) : huge_block(size));
 }
 
+/* Gives the pages behind the first `used` bytes of a block back to the system. At most one huge page falls into small ones. */
+static void give_pages_back(char *at, size_t used, size_t size)
+{
+    size_t first = (used + SMALL_PAGE - 1) / SMALL_PAGE * SMALL_PAGE, end = size / SMALL_PAGE * SMALL_PAGE;
+    if (first < end)
+        (void)madvise(at + first, end - first, MADV_DONTNEED);
+}
+
+/* Makes such a block smaller, where it is. If it keeps all its pages, those go back that it does not use: gcflip_release asks for that. */
+static void *smaller_block(void *old, size_t used, size_t size)
+{
+    bool keeps_pages = malloc_usable_size(old) - size < 2 * SMALL_PAGE;
+    void *at = realloc(old, size);
+    if (at == old && keeps_pages)
+        give_pages_back(at, used, size);
+    return at;
+}
+
 /* A large block that becomes smaller stays where it is, since a space that is given back in slices becomes smaller many times. */
 struct gcflip_memory rattle_realloc(void *old, size_t used, size_t size, size_t alignment)
 {
     (void)alignment;
-    if (size < HUGE_PAGE || is_huge_block(old, size))
+    if (size < HUGE_PAGE)
         return memory_at(realloc(old, at_least_one(size)));
-    return memory_at(huge_block_from(old, used, size));
+    return memory_at(is_huge_block(old, size) ? smaller_block(old, used, size) : huge_block_from(old, used, size));
 }
 
 void rattle_dealloc(void *old)
