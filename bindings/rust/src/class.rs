@@ -32,7 +32,7 @@ impl Error {
         match self {
             Error::NoMemory | Error::Full | Error::FrameFull => Class::Lack,
             Error::NoObject | Error::NoField | Error::NoNumber | Error::FrameEmpty => Class::Mismatch,
-            Error::Busy | Error::Idle | Error::NotReady => Class::Mismatch,
+            Error::Parked | Error::Busy | Error::Idle | Error::NotReady => Class::Mismatch,
             Error::OutOfRange | Error::FlipRefused | Error::Damaged => Class::Misuse,
         }
     }

@@ -31,7 +31,7 @@
 //! pair.get_number(X).unwrap();
 //! ```
 
-use crate::heap::{Counts, Error, Heap, Options, Place, Result, Value};
+use crate::heap::{words_of, Counts, Error, Heap, Options, Place, Result, Value};
 use crate::sys::Pace;
 use std::cell::{Cell, RefCell};
 use std::fmt;
@@ -107,6 +107,8 @@ pub struct Rooted {
     pace: RefCell<Pace>,
     /// But for the flips, which the heap counts.
     stats: Cell<Stats>,
+    /// The words up to which the heap grows; 0 if it does not.
+    most: u32,
     /// The extra roots that no `Root` has. It has room for all of them, so that the drop of a `Root` does not allocate.
     unused: RefCell<Vec<u32>>,
     roots: u32,
@@ -120,7 +122,21 @@ impl Rooted {
     /// Returns `OutOfRange` if `size` is 0 or `roots` is above 1,048,576, or `NoMemory`.
     pub fn open(size: u32, roots: u32) -> Result<Rooted> {
         let heap = Heap::open_with(Options::new(size, MUTATORS).extra_roots(roots))?;
-        Ok(Rooted { heap, pace: RefCell::default(), stats: Cell::default(), unused: RefCell::new((0..roots).rev().collect()), roots })
+        Ok(Rooted {
+            heap,
+            pace: RefCell::default(),
+            stats: Cell::default(),
+            most: 0,
+            unused: RefCell::new((0..roots).rev().collect()),
+            roots,
+        })
+    }
+
+    /// Lets the heap grow up to `most` words. A collection takes a larger space if there is too little room, or if more than half of the heap was in use after
+    /// the last flip.
+    pub fn growing(mut self, most: u32) -> Rooted {
+        self.most = most;
+        self
     }
 
     /// Makes an object of kind `K` whose fields are nil. Before that it performs the steps of the collector that are due, and whole collections if
@@ -132,7 +148,7 @@ impl Rooted {
     /// a collection gets no memory. The program then has the same objects as before.
     pub fn make<K: Kind>(&self) -> Result<Root<'_, K>> {
         let made = self.root()?;
-        let words = u32::from(K::FIELDS) + 2;
+        let words = words_of(u32::from(K::FIELDS));
         self.reserve(words)?;
         self.heap.new_object(made.place(), K::KIND, K::FIELDS)?;
         self.count(|stats| {
@@ -178,6 +194,7 @@ impl Rooted {
 
     /// Makes room for so many words.
     fn reserve(&self, words: u32) -> Result<()> {
+        self.grow(words, false)?;
         match self.heap.work_paced(&mut self.pace.borrow_mut(), words) {
             Ok(work) => work.into_iter().for_each(|work| self.worked(work.steps, work.copied)),
             // An allocation that has room does not wait for the memory of a collection.
@@ -185,6 +202,12 @@ impl Rooted {
             Err(error) => return Err(error),
         }
         if self.heap.room() < words {
+            self.grow(words, true)?;
+            self.collect()?;
+        }
+        // A collection that was open has ended in a space of the old size.
+        if self.heap.room() < words && self.heap.counts().size < self.most {
+            self.grow(words, true)?;
             self.collect()?;
         }
         if self.heap.room() < words {
@@ -192,6 +215,26 @@ impl Rooted {
             return Err(Error::Full);
         }
         Ok(())
+    }
+
+    /// Begins a collection with a larger space, if none is open and the heap may grow. If `now` is false, one has also to be due, and more than half of the heap in
+    /// use after the last flip. If the system refuses the memory, the next steps begin one of the same size.
+    fn grow(&self, words: u32, now: bool) -> Result<()> {
+        let counts = self.heap.counts();
+        if counts.is_open || counts.size >= self.most {
+            return Ok(());
+        }
+        let is_wanted = || {
+            let pace = self.pace.borrow();
+            u64::from(pace.left) * 2 > u64::from(counts.size) && self.heap.steps_due(&pace, words) > 0
+        };
+        if !now && !is_wanted() {
+            return Ok(());
+        }
+        match self.heap.begin_sized(counts.size.saturating_mul(2).saturating_add(words).min(self.most)) {
+            Err(Error::NoMemory) => Ok(()),
+            begun => begun,
+        }
     }
 
     /// Counts what a call of the collector did.

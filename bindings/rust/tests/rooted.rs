@@ -73,6 +73,31 @@ fn what_the_heap_did_is_counted() -> Result<()> {
 }
 
 #[test]
+fn a_heap_grows_if_it_may() -> Result<()> {
+    let make_list = |heap: &Rooted, length: u32| -> Result<()> {
+        let mut last = heap.make::<Pair>()?;
+        for _ in 1..length {
+            let next = heap.make::<Pair>()?;
+            next.put_root(NEXT, &last)?;
+            last = next;
+        }
+        Ok(())
+    };
+    let small = Rooted::open(2000, 4)?;
+    assert_eq!((make_list(&small, 500).unwrap_err(), small.counts().size), (Error::Full, 2000));
+    let heap = Rooted::open(2000, 4)?.growing(30000);
+    make_list(&heap, 500)?;
+    assert!(heap.counts().size > 2000 && heap.counts().size <= 30000);
+    heap.collect()?;
+    make_list(&heap, 7400)?; // 29,600 words
+    assert_eq!(heap.counts().size, 30000);
+    assert_eq!((make_list(&heap, 7500).unwrap_err(), heap.counts().size), (Error::Full, 30000));
+    heap.collect()?;
+    assert_eq!(free_at_the_end(&heap)?, 29999);
+    Ok(())
+}
+
+#[test]
 fn a_root_keeps_its_object_alive_and_no_other_root_does() -> Result<()> {
     let heap = Rooted::open(64, 4)?;
     let empty = heap.counts().free;

@@ -130,6 +130,15 @@ impl Heap {
         replied(self.handle.nil_root(root.0)).map(drop)
     }
 
+    /// Puts nil into these roots.
+    ///
+    /// # Errors
+    ///
+    /// Returns `OutOfRange` if the heap does not have all of them, or if the range ends before it starts.
+    pub fn clear(&self, roots: Range<Place>) -> Result<()> {
+        replied(self.handle.clear_root_range(roots.start.0, roots.end.0)).map(drop)
+    }
+
     /// Copies the value of root `source` into the root.
     ///
     /// # Errors
@@ -145,10 +154,10 @@ impl Heap {
     ///
     /// Returns `NoObject`, `NoField`, or `OutOfRange` if there is no such root.
     pub fn get(&self, root: Place, source: Place, field: u32) -> Result<Value> {
-        let (answer, number) = self.handle.get_root(root.0, source.0, field);
+        let (answer, view) = self.handle.get_root(root.0, source.0, field);
         match replied(answer)? {
             sys::GCFLIP_NIL => Ok(Value::Nil),
-            sys::GCFLIP_NUMBER => Ok(Value::Number(number)),
+            sys::GCFLIP_NUMBER => Ok(Value::Number(view.number)),
             // The library's `get` does not read the object that it finds.
             _ => self.look(root),
         }
@@ -296,6 +305,29 @@ impl Heap {
         Ok(replied(self.handle.bytes_same(one.0, other.0))? == sys::GCFLIP_SAME)
     }
 
+    /// Returns a hash of the bytes of the text that the root refers to, as `hp_bytes_hash` of `herbpond.h`. It depends on the seed, and on nothing else: texts
+    /// with the same bytes have the same hash.
+    ///
+    /// # Errors
+    ///
+    /// Returns `NoObject` if it refers to no text, or `OutOfRange` if there is no such root.
+    pub fn bytes_hash(&self, root: Place, seed: u64) -> Result<u64> {
+        const FACTOR: u64 = 0x9e3779b97f4a7c15;
+        let length = self.bytes_length(root)?;
+        let mut hash = (seed ^ u64::from(length)).wrapping_mul(FACTOR);
+        let mut bytes = [0; 256];
+        for at in (0..length).step_by(bytes.len()) {
+            let some = &mut bytes[..256.min(length - at) as usize];
+            self.bytes_read(root, at, some)?;
+            for part in some.chunks(8) {
+                let word = part.iter().rev().fold(0, |word, byte| word << 8 | u64::from(*byte));
+                hash = (hash ^ word).wrapping_mul(FACTOR);
+                hash ^= hash >> 32;
+            }
+        }
+        Ok(hash)
+    }
+
     /// Returns the order of both roots' texts: that of unsigned bytes, in which a shorter beginning comes first.
     ///
     /// # Errors
@@ -326,6 +358,27 @@ impl Heap {
     /// a collection is open, `NoMemory`.
     pub fn words_write(&self, mutator: u8, root: Place, at: u32, words: &[u64]) -> Result<()> {
         replied(self.handle.words_write(mutator.into(), root.0, at, words)).map(drop)
+    }
+
+    /// Reads the numbers in fields of the raw object that the root refers to, from field `first` on: as many as `numbers` takes.
+    ///
+    /// # Errors
+    ///
+    /// Returns `NoObject` if it refers to no raw object, `NoField` if the object has fewer fields, or `OutOfRange` if there is no such root. Then nothing was
+    /// written.
+    pub fn raw_read(&self, root: Place, first: u32, numbers: &mut [u64]) -> Result<()> {
+        replied(self.handle.raw_read_root(root.0, first, numbers)).map(drop)
+    }
+
+    /// Writes numbers below 2^63 into fields of the raw object that the root refers to, from field `first` on, as `put_number` writes one. All are written or
+    /// none.
+    ///
+    /// # Errors
+    ///
+    /// Returns `NoObject` if it refers to no raw object, `NoField` if the object has fewer fields, `NoNumber` if a number is larger, or `OutOfRange` if there is
+    /// no such root or mutator; or, while a collection is open, `NoMemory`.
+    pub fn raw_write(&self, mutator: u8, root: Place, first: u32, numbers: &[u64]) -> Result<()> {
+        replied(self.handle.raw_write_root(mutator.into(), root.0, first, numbers)).map(drop)
     }
 
     /// Returns whether both roots hold nil, equal numbers, or references to one object.
