@@ -12,10 +12,10 @@ NAMES = {"root_load": "load", "root_store": "store", "raw": "new_raw", "num": "s
          "drop": "give_up"}
 PLACED = {"place_new": "new", "place_raw": "new_raw", "place_pair": "new_pair", "place_new_from": "new_from", "place_new_with": "new_with", "place_put_sure": "put_sure",
           "place_fill": "fill", "place_copy_fields": "copy_fields", "place_gather": "gather", "place_spread": "spread", "place_refer": "refer", "place_address": "address",
-          "place_num": "set_number", "place_nil": "set_nil", "place_copy": "copy", "place_get": "get", "place_peek": "peek",
+          "place_num": "set_number", "place_nil": "set_nil", "place_clear": "clear", "place_copy": "copy", "place_get": "get", "place_peek": "peek",
           "place_put": "put", "place_put_number": "put_number", "place_put_nil": "put_nil", "place_same": "is_same", "place_look": "look",
           "place_new_bytes": "new_bytes", "place_join": "bytes_join", "place_part": "bytes_part", "place_write": "bytes_write", "place_text": "bytes_read", "place_order": "bytes_compare",
-          "place_write_words": "words_write", "place_words": "words_read"}
+          "place_write_words": "words_write", "place_words": "words_read", "place_raw_write": "raw_write", "place_raw_read": "raw_read"}
 DONE = {"new": "made", "raw": "made", "cons": "made", "num": "done", "nil": "done", "move": "done", "put": "done", "put_number": "done",
         "put_nil": "done", "copy_fields": "done", "root_load": "done", "root_store": "done", "refer": "done"}
 
@@ -75,13 +75,15 @@ def by_places(heap, name, numbers):
         return "address %d" % call(*numbers)
     if name == "place_text":
         return " ".join(["text", *map(str, call(*numbers))])
+    if name == "place_raw_read":
+        return " ".join(["read", *map(str, call(*numbers))])
     if name == "place_words":
         return " ".join(["words", *map(str, call(*numbers))])
     if name == "place_order":
         return "order %d" % call(*numbers)
     if name in ("place_new_bytes", "place_write"):
         numbers[3:] = [bytes(numbers[3:])]
-    if name in ("place_new_from", "place_write_words"):
+    if name in ("place_new_from", "place_write_words", "place_raw_write"):
         numbers[3:] = [numbers[3:]]
     if name == "place_new_with":
         numbers[3:] = [field_sources(numbers[3:])]
@@ -135,7 +137,23 @@ def paced(heap, wanted):
     work = heap.work_paced(pace, wanted)
     assert (work is None) == (due == 0)
     assert work is None or work.steps + work.looks // 32 + pace.owed >= due or work.last in (Step.FLIPPED, Step.NO_ROOM)
+    return remembered(work, pace)
+
+
+def remembered(work, pace):
+    """Returns what a call at a pace did, if it did something, and what the pace remembers."""
     return "%s, %d %d %d %d %d" % (worked(work) if work else "nothing", pace._raw.left, pace._raw.end, pace._raw.logged, pace.owed, pace._raw.roots)
+
+
+def reserved(heap, words):
+    """Makes room, and returns what was done, unless that failed, and what the pace remembers."""
+    reply, work = "done", None
+    try:
+        work = heap.reserve(paces[-1], words)
+    except (gcflip.Full, gcflip.OutOfMemory) as error:
+        reply = REPLIES[type(error)]
+    assert (reply == "done") == (heap.room() >= words)
+    return "%s, %s" % (reply, remembered(work, paces[-1]))
 
 
 def performed(heap, name, numbers):
@@ -147,6 +165,13 @@ def performed(heap, name, numbers):
         return "done"
     if name == "work_paced":
         return paced(heap, *numbers)
+    if name == "reserve":
+        return reserved(heap, *numbers)
+    if name == "collect":
+        return "done, " + worked(heap.collect())
+    if name == "release":
+        heap.release()
+        return "done"
     if name in PLACED:
         return by_places(heap, name, numbers)
     if name.startswith("frame_"):

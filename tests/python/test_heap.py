@@ -169,7 +169,7 @@ class Commands(unittest.TestCase):
         for error, reply, call in refused:
             with self.assertRaises(error) as caught:
                 call()
-            self.assertEqual(str(caught.exception), reply)
+            self.assertEqual(caught.exception.reply, reply)
             self.assertIsInstance(caught.exception, gcflip.HeapRefused)
         self.assertIsNone(self.mutator.look(own(0)))
 
@@ -199,7 +199,7 @@ class Commands(unittest.TestCase):
 
     def test_looks_are_units_of_work(self):
         with Heap(64, extra_roots=100) as heap:
-            mutator, pace = heap.mutator(0), gcflip.Pace(words=32)
+            mutator, pace = heap.mutator(0), gcflip.Pace(words=16)
             mutator.new(own(0), 7, 1)
             for root in range(70):
                 mutator.store(root, own(0))
@@ -209,7 +209,7 @@ class Commands(unittest.TestCase):
             self.assertEqual(heap.counts().roots_left, 38)
             mutator.store(5, own(0))
             self.assertEqual(heap.counts().roots_left, 39)
-            # Six steps are due, because no room is left, two of them for 39 looks. The call may take 32 looks, which are one, and owes the others.
+            # Six steps are due, because no room is left, two of them for 39 looks. The call may take 32 looks, twice as many as units, and owes the others.
             heap.remember(pace)
             self.assertEqual(heap.work_paced(pace, 1 << 31), (0, 0, None, 0, 32))
             self.assertEqual((pace.owed, heap.counts().roots_left), (5, 7))

@@ -52,7 +52,16 @@ class CommandsByPlaces(unittest.TestCase):
         self.assertEqual((heap.room(), heap.counts().free), (8, 8))
         self.assertEqual((heap.peek(root, 0), heap.peek(raw, 0)), (None, 0))
         self.assertEqual([heap.object_at(at) for at in (1, 5, 8, 0, 2 ** 32 - 1)], [Object(7, 2), Object(255, 1, True), None, None, None])
+        self.assertEqual(list(heap.objects()), [(1, Object(7, 2)), (5, Object(255, 1, True))])
+        self.assertEqual(list(heap), [Object(7, 2), Object(255, 1, True)])
+        self.assertEqual((gcflip.words_of(2), gcflip.words_of(1), gcflip.words_of(0), gcflip.words_of(65535)), (4, 3, 2, 65537))
         self.assertRaises(gcflip.OutOfRange, heap.object_at, 2 ** 32)
+        for at in (14, 15, 16, 17):
+            heap.set_number(at, 6)
+        heap.clear(14, 17)
+        self.assertEqual([heap.look(at) for at in (14, 15, 16, 17)], [None, None, None, 6])
+        for first, end in ((17, 14), (0, 2 ** 20), (0, 2 ** 32), (-1, 0)):
+            self.assertRaises(gcflip.OutOfRange, heap.clear, first, end)
         heap.put(0, root, 0, raw)
         heap.put_number(0, root, 1, 2 ** 63 - 1)
         heap.put_number(1, raw, 0, 6)
@@ -222,6 +231,51 @@ class CommandsByPlaces(unittest.TestCase):
         self.assertEqual((heap.log_length(0), heap.log_length(1), heap.words_read(one)), (0, 5, words))
         heap.close()
         for call in (lambda: heap.words_read(0), lambda: heap.words_write(0, 0, 0, [])):
+            self.assertRaises(gcflip.Closed, call)
+
+    def test_hashes_of_texts(self):
+        """The hashes are computed from the rule that herbpond.h has, by another program."""
+        heap = Heap(1000)
+        self.addCleanup(heap.close)
+        for text, seed, wanted in ((b"", 5, 0x1715609f7c746c69), (b"herbpond", 5, 0x27fd3d97bf24d07a), (bytes(k % 256 for k in range(300)), 7, 0x4d1542e696f3039a)):
+            heap.new_bytes(0, 0, 1, text)
+            self.assertEqual(heap.bytes_hash(0, seed), wanted)
+        self.assertNotEqual(heap.bytes_hash(0, 8), heap.bytes_hash(0, 7))
+        for call, error in ((lambda: heap.bytes_hash(1, 5), gcflip.NoObject), (lambda: heap.bytes_hash(32, 5), gcflip.OutOfRange), (lambda: heap.bytes_hash(0, -1), gcflip.OutOfRange), (lambda: heap.bytes_hash(0, 1 << 64), gcflip.OutOfRange)):
+            self.assertRaises(error, call)
+
+    def test_what_errors_say(self):
+        heap = Heap(8)
+        self.addCleanup(heap.close)
+        refused = [(lambda: heap.new(0, 1, 7), gcflip.Full.sentence), (lambda: heap.new(32, 1, 1), "new: " + gcflip.OutOfRange.sentence), (lambda: heap.get(0, 0, 0), gcflip.NoObject.sentence)]
+        for call, said in refused:
+            with self.assertRaises(gcflip.GcflipError) as caught:
+                call()
+            self.assertTrue(said)
+            self.assertEqual(str(caught.exception), said)
+        self.assertEqual(gcflip.Full.reply, "full")
+
+    def test_numbers_of_raw_objects(self):
+        heap = Heap(200, mutators=2, extra_roots=3)
+        self.addCleanup(heap.close)
+        one, other, nil = 0, 50, 5
+        heap.new_raw(one, 7, 4)
+        heap.raw_write(1, one, 1, array.array("Q", [6, 2 ** 63 - 1]))
+        heap.raw_write(0, one, 4, [])
+        self.assertEqual([heap.raw_read(one, first, count).tolist() for first, count in ((0, 4), (1, 2), (4, 0))], [[0, 6, 2 ** 63 - 1, 0], [6, 2 ** 63 - 1], []])
+        heap.new(other, 7, 2)
+        for call, error in ((lambda: heap.raw_read(one, 3, 2), gcflip.NoField), (lambda: heap.raw_read(one, 2 ** 32 - 1, 1), gcflip.NoField), (lambda: heap.raw_write(0, one, 3, [1, 2]), gcflip.NoField),
+                            (lambda: heap.raw_write(0, one, 65536, [1]), gcflip.NoField), (lambda: heap.raw_write(0, one, 0, [1, 2 ** 63]), gcflip.NoNumber),
+                            (lambda: heap.raw_read(nil, 0, 0), gcflip.NoObject), (lambda: heap.raw_read(other, 0, 1), gcflip.NoObject), (lambda: heap.raw_write(0, other, 0, [1]), gcflip.NoObject),
+                            (lambda: heap.raw_read(51, 0, 1), gcflip.OutOfRange), (lambda: heap.raw_read(one, -1, 1), gcflip.OutOfRange), (lambda: heap.raw_read(one, 0, 65536), gcflip.OutOfRange),
+                            (lambda: heap.raw_write(2, one, 0, [1]), gcflip.OutOfRange), (lambda: heap.raw_write(0, 51, 0, [1]), gcflip.OutOfRange), (lambda: heap.raw_write(0, one, -1, [1]), gcflip.OutOfRange),
+                            (lambda: heap.raw_write(0, one, 0, [2 ** 64]), OverflowError), (lambda: heap.raw_write(0, one, 0, array.array("d", [1])), TypeError)):
+            self.assertRaises(error, call)
+        heap.begin()
+        heap.raw_write(1, one, 2, [8, 9])
+        self.assertEqual((heap.log_length(0), heap.log_length(1), heap.raw_read(one, 0, 4).tolist()), (0, 2, [0, 6, 8, 9]))
+        heap.close()
+        for call in (lambda: heap.raw_read(0, 0, 0), lambda: heap.raw_write(0, 0, 0, [])):
             self.assertRaises(gcflip.Closed, call)
 
     def test_texts_are_those_of_python(self):

@@ -249,6 +249,35 @@ class Roots(unittest.TestCase):
             with Heap(64, extra_roots=count) as heap, self.assertRaises(gcflip.FrameFull):
                 heap.make(1, 0)
 
+    def test_a_heap_that_grows(self):
+        def list_of(heap, length):
+            """Returns a list of so many pairs, of four words each."""
+            last = None
+            for _ in range(length):
+                pair = heap.make(1, 2)
+                pair[1] = last
+                last = pair
+            return last
+
+        with Heap(2000, extra_roots=5) as heap:
+            self.assertRaises(gcflip.Full, list_of, heap, 500)
+            self.assertEqual(heap.counts().size, 2000)
+        with Heap(2000, extra_roots=5) as heap:
+            heap.growing(30000)
+            kept = list_of(heap, 500)
+            self.assertTrue(2000 < heap.counts().size <= 30000)
+            del kept
+            heap.collect()
+            kept = list_of(heap, 7400)  # 29,600 words
+            self.assertEqual(heap.counts().size, 30000)
+            del kept
+            self.assertRaises(gcflip.Full, list_of, heap, 7500)
+            self.assertEqual((heap.counts().size, heap.stats().full), (30000, 1))
+            for most in (-1, 1 << 32):
+                self.assertRaises(gcflip.OutOfRange, heap.growing, most)
+            heap.collect()
+            self.assertEqual(heap.counts().free, 29999)
+
     def test_a_full_heap(self):
         with Heap(64, extra_roots=100) as heap:
             held = [heap.make(1, 1) for _ in range(21)]

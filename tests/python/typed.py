@@ -4,6 +4,10 @@ from __future__ import annotations
 import array
 
 from gcflip import Comparison, Content, Counts, Heap, Image, LogEntry, Mutator, Object, Pace, Path, Ref, Refused, Step, Value, Work, check, check_text, compare, extra_place, own, path_to, place
+from gcflip import values
+from gcflip.arrays import Arrays
+from gcflip.kinds import kind_name
+from gcflip.weak import Table
 
 
 def collected(heap: Heap) -> int:
@@ -45,7 +49,23 @@ def checked(words: memoryview, roots: array.array[int]) -> int:
         return refused.place
 
 
+def layered(heap: Heap) -> int:
+    values.set_int(heap, 0, -1)
+    row: Arrays = Arrays(heap, 0, (29, 30, 31))
+    row.new_array(1, kind=7, length=3)
+    row.put(1, 2, source=0)
+    meant: values.Value = values.value(heap, 0)
+    code: int | None = values.code_of_double(0.5)
+    table: Table = Table(heap)
+    handle: int = table.weak_new(1, ("any", "token"))
+    name: str = kind_name(["pair"], 0)
+    return row.length(1) + handle + len(name) + (meant if isinstance(meant, int) else 0) + (code or 0) + len(list(table.dead()))
+
+
 def refused_by_mypy(heap: Heap) -> None:
+    values.set_int(heap, 0, 0.5)  # wrong
+    Arrays(heap, 0, (1, 2))  # wrong
+    Table(heap).weak_get(0, None)  # wrong
     heap.work("100")  # wrong
     length: int = heap.mutator(0).get(own(1), own(0), 0)  # wrong
     heap.mutators  # wrong

@@ -1,11 +1,17 @@
-"""The exceptions of the package. A call that raises one has changed nothing, except `put_number` and `put_nil`, as they say."""
+"""The exceptions of the package. A call that raises one has changed nothing, except `put_number` and `put_nil` of a mutator, as they say."""
 from __future__ import annotations
 
 import enum
 
 
 class GcflipError(Exception):
-    """The base of all exceptions of the package."""
+    """The base of all exceptions of the package. Its text says more, or is `sentence`."""
+
+    sentence = ""
+    """What gcflip_answer_text of C says of the answer: what it means and, behind a colon, what to do. Exceptions of the checker have texts of their own."""
+
+    def __str__(self) -> str:
+        return super().__str__() or self.sentence
 
 
 # ---- Classes, which are those of gcflip_class_of in C. Each exception has one of them.
@@ -29,17 +35,25 @@ class Misuse(GcflipError):
 class OutOfMemory(Lack, MemoryError):
     """An allocation failed. The call can be retried."""
 
+    sentence = "The system refused memory: free some, or give the collection up, and call again."
+
 
 class OutOfRange(Misuse, ValueError):
     """An argument is out of its range."""
+
+    sentence = "An argument is out of its range: correct the program; the header gives the ranges."
 
 
 class Closed(Misuse, ValueError):
     """The heap is closed."""
 
+    sentence = "The handle has no heap: open it before other calls, and use it no more after it was closed."
+
 
 class Damaged(Misuse):
     """The heap's words are not those of a heap. It is proved that this does not happen, unless other code writes into the heap's memory."""
+
+    sentence = "Other code wrote into the heap's memory: copy what is needed, and end the program."
 
 
 class Reentered(Misuse, RuntimeError):
@@ -132,63 +146,79 @@ class TextTooLarge(BadText):
 class FrameFull(Lack):
     """The frame has no root left."""
 
+    sentence = "The frame has no root left: drop values, or use a frame of more roots."
+
 
 class FrameEmpty(Mismatch):
     """The frame holds no value."""
 
+    sentence = "The frame holds no value: push one before a pop."
+
+
+class Parked(Mismatch):
+    """The mutator has stopped at `try_safepoint` of gcflip.beside, and its collector has not let it go on."""
+
+    sentence = "The mutator has stopped at a safepoint: let it go on before its next command."
+
 
 class HeapRefused(GcflipError):
-    """The heap refused a command or a step. Its text is the reply that `gcflip play` prints."""
+    """The heap refused a command or a step."""
 
     reply = ""
-
-    def __init__(self) -> None:
-        super().__init__(self.reply)
+    """The reply that `gcflip play` prints."""
 
 
 class Full(HeapRefused, Lack):
     """The heap has no room for the object."""
 
     reply = "full"
+    sentence = "The heap has no room for the object: collect until a collection that begins now has flipped, and call again."
 
 
 class NoObject(HeapRefused, Mismatch):
     """The slot does not refer to an object."""
 
     reply = "no object"
+    sentence = "There is no such object: look at the value before its fields, and forget the address of an object that died."
 
 
 class NoField(HeapRefused, Mismatch, IndexError):
     """The object has no such field."""
 
     reply = "no field"
+    sentence = "The object has fewer fields: compare with the number of fields that a look tells."
 
 
 class NoNumber(HeapRefused, Mismatch):
     """The object is raw and the value is not a number."""
 
     reply = "no number"
+    sentence = "The object is raw, and the value is no number: put a number, or make an object that is not raw."
 
 
 class Busy(HeapRefused, Mismatch):
     """A collection is open already."""
 
     reply = "busy"
+    sentence = "A collection is open already: go on with it, or give it up."
 
 
 class Idle(HeapRefused, Mismatch):
     """No collection is open."""
 
     reply = "idle"
+    sentence = "No collection is open: begin one first."
 
 
 class NotReady(HeapRefused, Mismatch):
     """The collection is not ready for its flip."""
 
     reply = "not ready"
+    sentence = "The collection is not ready for its flip: perform the useful steps before it."
 
 
 class FlipRefused(HeapRefused, Misuse):
     """The checker refused the certificate of a flip. It is proved that this does not happen."""
 
     reply = "refused"
+    sentence = "The checker refused the flip, because other code wrote into the heap's memory: end the program."

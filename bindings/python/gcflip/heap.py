@@ -8,21 +8,23 @@ import functools
 import operator
 import os
 import weakref
-from typing import Any, Callable, Iterable, NamedTuple, NoReturn, Optional, Sequence, Union
+from typing import Any, Callable, Iterable, Iterator, NamedTuple, NoReturn, Optional, Sequence, Union
 
 from . import library, quick, refs, turns
 from .checker import Block, Image, Row, _pairs_of
 from .errors import (Busy, Closed, Damaged, FlipRefused, FrameEmpty, FrameFull, Full, GcflipError, HeapRefused, Idle, NoField, NoNumber, NoObject, NotReady,
-                     OutOfMemory, OutOfRange)
+                     OutOfMemory, OutOfRange, Parked)
 from .library import COUNTS, HEAP, LIBRARY, MUTATOR, ROOTS, SLOT, Answer, CheckingNumber, StepName, in_range
 from .renamed import renamed
 
 SLOTS = 16
+HASH_FACTOR = 0x9e3779b97f4a7c15
 NOTHING_DONE: dict[int, type[GcflipError]] = {
     Answer.NO_MEMORY: OutOfMemory,
     Answer.OUT_OF_RANGE: OutOfRange,
     Answer.CLOSED: Closed,
     Answer.DAMAGED: Damaged,
+    Answer.PARKED: Parked,
     Answer.FRAME_FULL: FrameFull,
     Answer.FRAME_EMPTY: FrameEmpty,
 }
@@ -170,7 +172,7 @@ class Pace:
 
     A collection begins where the heap has `factor` hundredths, 100 to 10000, of the words that the last flip left, but at least `least` words,
     or where half of the room that the flip left is used up. `rate` steps are due for each word allocated, each entry logged and
-    each 32 looks that stores to extra roots ask for; with 0 the counts decide. A call ends after `words` units or looks, or once it has copied `words` words; with 0 it performs all steps that
+    each 32 looks that stores to extra roots ask for; with 0 the counts decide. A call ends after `words` units or twice as many looks, or once it has copied `words` words; with 0 it performs all steps that
     are due.
     """
 
@@ -326,6 +328,11 @@ class Heap(quick.Quickened):
 
         return refs.made(self, self._pool, new, kind, refs.fields_for(len(data)))
 
+    def growing(self, most: int) -> None:
+        """Lets `make` and the like grow the heap up to `most` words, as `hp_growing` of `herbpond.h`. A collection takes a larger space if there is too little
+        room, or if more than half of the heap was in use after the last flip. With 0 it does not grow. Raises OutOfRange for 2^32 or more."""
+        self._pool.most, = in_range((most,), [ctypes.c_uint32])
+
     def stats(self) -> Stats:
         """Returns what the heap did for references that own a root, `make` and the like, since it was opened."""
         checks, counted = self.flip_checks(), self._pool.counted
@@ -445,7 +452,7 @@ class Heap(quick.Quickened):
         because memory was refused or the open collection's new space is too small. Raises OutOfRange if the pace's factor is out of range."""
         work = library.Work()
         if self._call_roots("reserve", pace._raw, words, work) == Answer.STARVED:
-            raise OutOfMemory("reserve")
+            raise OutOfMemory("reserve: " + OutOfMemory.sentence)
         return _work_of(work) if work.steps or work.looks else None
 
     def collect(self) -> Work:
@@ -454,7 +461,7 @@ class Heap(quick.Quickened):
         the collection is still open, and `give_up` gives it up."""
         work = library.Work()
         if self._call_roots("collect", work) != Answer.DONE:
-            raise OutOfMemory("collect")
+            raise OutOfMemory("collect: " + OutOfMemory.sentence)
         return _work_of(work)
 
     def safepoint(self, pace: Pace) -> None:
@@ -525,6 +532,10 @@ class Heap(quick.Quickened):
     def set_nil(self, root: int) -> None:
         """Puts nil into the root."""
         self._call_roots("set_nil", root)
+
+    def clear(self, first: int, end: int) -> None:
+        """Puts nil into the roots from `first` on, and below `end`. Raises OutOfRange if the heap does not have all of them, or if `first` is above `end`."""
+        self._call_roots("clear", first, end)
 
     def copy(self, root: int, source: int) -> None:
         """Copies the value of root `source` into the root."""
@@ -635,6 +646,17 @@ class Heap(quick.Quickened):
         self._call_roots("bytes_compare", first, second, order)
         return order.value
 
+    def bytes_hash(self, root: int, seed: int) -> int:
+        """Returns a hash of the bytes of the text that the root refers to, as `hp_bytes_hash` of `herbpond.h`. It depends on the seed, which has 64 bits, and on
+        nothing else: texts with the same bytes have the same hash. Raises NoObject if it refers to no text."""
+        seed, = in_range((seed,), [ctypes.c_uint64])
+        text = self.bytes_read(root)
+        result = (seed ^ len(text)) * HASH_FACTOR % (1 << 64)
+        for at in range(0, len(text), 8):
+            result = (result ^ int.from_bytes(text[at:at + 8], "little")) * HASH_FACTOR % (1 << 64)
+            result ^= result >> 32
+        return result
+
     def words_read(self, root: int, at: int = 0, count: Optional[int] = None) -> array.array[int]:
         """Returns `count` words of the vector that the root refers to, from word `at` on, or all that follow. Each raw object is a vector of 64-bit words, 63 of
         them in 64 fields. `array.array("d", words.tobytes())` takes them for doubles. Raises NoObject if the root refers to no raw object, and NoField if the
@@ -660,6 +682,22 @@ class Heap(quick.Quickened):
         mutator, root, at = in_range((mutator, root, at), ROOTS["words_write"][:3])
         row = Block(words, "Q")
         self._turn.take(lambda: self._made_roots("words_write", mutator, root, at, row.address, row.count))
+
+    def raw_read(self, root: int, first: int, count: int) -> array.array[int]:
+        """Returns the numbers in `count` fields of the raw object that the root refers to, from field `first` on. Raises NoObject if it refers to no raw object,
+        and NoField if the object has fewer fields."""
+        root, first, count = in_range((root, first, count), (*ROOTS["raw_read"][:2], ctypes.c_uint16))
+        numbers = _zeros(count)
+        self._turn.take(lambda: self._made_roots("raw_read", root, first, numbers.buffer_info()[0], count))
+        return numbers
+
+    def raw_write(self, mutator: int, root: int, first: int, numbers: Row) -> None:
+        """Writes numbers into fields of the raw object that the root refers to, from field `first` on, as `put_number` writes one. A buffer of 64-bit words is
+        read in place. No root changes. All are written or none. Raises NoObject and NoField as `raw_read` does, NoNumber if a number is 2^63 or more, and
+        OutOfMemory while a collection is open."""
+        mutator, root, first = in_range((mutator, root, first), ROOTS["raw_write"][:3])
+        row = Block(numbers, "Q")
+        self._turn.take(lambda: self._made_roots("raw_write", mutator, root, first, row.address, row.count))
 
     def is_same(self, first: int, second: int) -> bool:
         """Returns whether both roots hold nil, equal numbers, or references to one object."""
@@ -756,6 +794,18 @@ class Heap(quick.Quickened):
         found = _seen(self._call_roots("object_at", address, view), view)
         return found if isinstance(found, Object) else None
 
+    def objects(self) -> Iterator[tuple[int, Object]]:
+        """Yields the addresses and the objects of the heap, in order, also those that no root reaches. Ends where the heap was changed so that no object starts
+        at the next address."""
+        address = 1
+        while (found := self.object_at(address)) is not None:
+            yield address, found
+            address += words_of(found.length)
+
+    def __iter__(self) -> Iterator[Object]:
+        """Yields the objects of the heap in the order of their addresses, as `objects` does."""
+        return (found for _, found in self.objects())
+
     def field_at(self, address: int, field: int) -> tuple[Value, int | None]:
         """Returns the value of a field of the object that starts at this address, and the address of the object that the value refers to. Returns None for both
         if no object starts at the address. Raises NoField if the object has no such field."""
@@ -849,7 +899,7 @@ def _answered(name: str, number: int) -> Answer:
     """Returns the reply of a call. Raises the exception for a refusal."""
     answer = Answer(number)
     if answer in NOTHING_DONE:
-        raise NOTHING_DONE[answer](name)
+        raise NOTHING_DONE[answer]("%s: %s" % (name, NOTHING_DONE[answer].sentence))
     if answer in REFUSED:
         raise REFUSED[answer]()
     return answer
@@ -866,6 +916,11 @@ def _record(field: FieldSource, kind: Any = SLOT) -> library.Field:
 
 def _zeros(count: int) -> array.array[int]:
     return array.array("Q", bytes(8 * count))
+
+
+def words_of(length: int) -> int:
+    """Returns the number of words that an object with `length` fields takes."""
+    return length + 2
 
 
 def words_in(fields: int) -> int:

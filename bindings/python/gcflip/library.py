@@ -49,6 +49,8 @@ class Answer(enum.IntEnum):
     FAULTY = 9
     NOT_BEGUN = 10
     DAMAGED = 11
+    PARKED = 12
+    NOT_YET = 13
     MADE = 16
     FULL = 17
     NO_OBJECT = 18
@@ -214,6 +216,7 @@ ROOTS: Dict[str, List[Any]] = {
     "spread": [PLACE, PLACE, c_uint32],
     "set_number": [PLACE, c_uint64],
     "set_nil": [PLACE],
+    "clear": [PLACE, PLACE],
     "copy": [PLACE, PLACE],
     "get": [PLACE, PLACE, c_uint32, POINTER(c_uint64)],
     "peek": [PLACE, c_uint32, POINTER(View)],
@@ -235,6 +238,8 @@ ROOTS: Dict[str, List[Any]] = {
     "bytes_compare": [PLACE, PLACE, POINTER(c_int32)],
     "words_read": [PLACE, c_uint32, c_void_p, c_size_t],
     "words_write": [c_uint32, PLACE, c_uint32, c_void_p, c_size_t],
+    "raw_read": [PLACE, c_uint32, c_void_p, c_size_t],
+    "raw_write": [c_uint32, PLACE, c_uint32, c_void_p, c_size_t],
     "address": [PLACE, POINTER(c_uint32)],
     "moved": [c_uint32, POINTER(c_uint32)],
     "refer": [PLACE, c_uint32],

@@ -5,7 +5,7 @@ import contextlib
 import itertools
 from typing import TYPE_CHECKING, Callable, Iterator, Union, overload
 
-from .errors import Closed, FrameFull, Full, NoObject, OutOfMemory, OutOfRange
+from .errors import Busy, Closed, FrameFull, Full, NoObject, OutOfMemory, OutOfRange
 from .renamed import renamed
 
 if TYPE_CHECKING:
@@ -55,6 +55,8 @@ class RootPool:
         self.counted = Counted()
         # The words that objects may take before the collector has to work again.
         self.credit = 0
+        # The words up to which the heap grows; 0 if it does not.
+        self.most = 0
         # Roots that were given back. They are taken before those that were never used, so that few roots are in use.
         self.unused: list[int] = []
         self.fresh = itertools.count(1)
@@ -72,6 +74,19 @@ class RootPool:
         if root >= self.count:
             raise FrameFull("no extra root is left for another reference")
         return root
+
+    def grow(self, heap: Heap, words: int, now: bool) -> None:
+        """Begins a collection with a larger space, if none is open and the heap may grow. If `now` is false, one has also to be due, and more than half of the
+        heap in use after the last flip. If the system refuses the memory, the next steps begin one of the same size."""
+        if self.most == 0:
+            return
+        counts = heap.counts()
+        if counts.is_open or counts.size >= self.most:
+            return
+        if now or (2 * self.pace._raw.left > counts.size and heap.steps_due(self.pace, words) > 0):
+            # Another thread may have begun one meanwhile.
+            with contextlib.suppress(OutOfMemory, Busy):
+                heap.begin(min(2 * counts.size + words, self.most))
 
     def clear(self, heap: Heap) -> None:
         """Tries once more to clear each root that has to be cleared. Another thread may do the same."""
@@ -251,18 +266,21 @@ def made(heap: Heap, pool: RootPool, new: Callable[[int, int, int], None], kind:
     words = length + WORDS_OF_HEADER
     if words > pool.credit:
         pool.credit = words + BLOCK
+        pool.grow(heap, pool.credit, False)
         # An object that has room does not wait for the memory of a collection.
         with contextlib.suppress(OutOfMemory):
             pool.counted.worked(heap.work_paced(pool.pace, pool.credit))
     pool.credit -= words
-    try:
-        new(ref.place, kind, length)
-    except Full:
-        heap._collect(pool)
+    for turn in itertools.count():
         try:
             new(ref.place, kind, length)
+            break
         except Full:
-            pool.counted.full += 1
-            raise
+            # A collection that was open in the first turn has ended in a space of the old size.
+            if turn == 2 or (turn == 1 and heap.counts().size >= pool.most):
+                pool.counted.full += 1
+                raise
+        pool.grow(heap, words, True)
+        heap._collect(pool)
     pool.counted.made(words)
     return ref
