@@ -29,21 +29,19 @@ static void expect(const char *call, uint32_t answer, uint32_t wanted)
     }
 }
 
-/* Makes an object, with a collection if there is no room. */
+/* Makes an object. It has two words more than fields, for which the program waits if they are not free. This is a safepoint. */
 static void make(uint32_t d, uint32_t kind, uint32_t count)
 {
-    while (gcflip_beside_new(mutator, d, kind, count) == GCFLIP_FULL) {
-        expect("collect", gcflip_thread_collect(thread), GCFLIP_FLIPPED);
-    }
+    expect("reserve", gcflip_thread_reserve(thread, count + 2), GCFLIP_DONE);
+    expect("new", gcflip_beside_new(mutator, d, kind, count), GCFLIP_MADE);
 }
 
-/* Makes a tree of this depth in the root of its level. Each node is a safepoint. */
+/* Makes a tree of this depth in the root of its level. */
 static void make_tree(uint32_t depth)
 {
     uint32_t here = STACK + depth;
 
     make(here, KIND_NODE, 2);
-    expect("safepoint", gcflip_thread_safepoint(thread), GCFLIP_DONE);
     if (depth == 0) {
         expect("put", gcflip_beside_put(mutator, here, 0, NUMBER), GCFLIP_DONE);
         return;

@@ -210,14 +210,12 @@ static void add(enum slot object, enum slot key, enum slot value)
 
 static enum next do_make_table(void)
 {
-    check_addresses();
     make_table(A, false);
     return return_slot(A);
 }
 
 static enum next do_make_weak_table(void)
 {
-    check_addresses();
     make_table(A, true);
     return return_slot(A);
 }
@@ -303,7 +301,6 @@ void make_finalizers(void)
 /* (finalize! OBJECT FUNCTION) */
 static enum next do_finalize(void)
 {
-    check_addresses();
     key_argument(0);
     argument(C, 1);
     add(FINALIZERS, B, C);
@@ -313,7 +310,6 @@ static enum next do_finalize(void)
 /* Returns the function of an object that died, or #f. It returns each function once. */
 static enum next do_next_finalizer(void)
 {
-    check_addresses();
     struct table *table = record_of(FINALIZERS);
     if (table->lost == NONE)
         return return_boolean(false);

@@ -215,11 +215,6 @@ void copy_all_fields(enum slot to, enum slot from)
 
 /* ---- Addresses */
 
-bool has_addresses(void)
-{
-    return calls->address != NULL;
-}
-
 uint32_t address_of(enum slot object)
 {
     uint32_t address = 0;

@@ -81,9 +81,6 @@ void copy_all_fields(enum slot to, enum slot from);
 
 /* ---- Addresses: the identity of an object, until the next flip */
 
-/* Returns whether the heap has addresses, as these functions and copy_all_fields need: it has none if its collector has a thread. */
-bool has_addresses(void);
-
 uint32_t address_of(enum slot object);
 
 /* Puts the address to which the last flip moved the object that was at this one. Returns false if it died. Call it in a function for

@@ -8,10 +8,16 @@ _Static_assert(SLOTS <= GCFLIP_BESIDE_ROOTS, "each slot is the root with its num
 
 static gcflip_thread *thread;
 static gcflip_mutator *mutator;
-static uint32_t top; /* how many extra roots have a value of the stack */
-static uint32_t end; /* how many there are */
+static gcflip_frame stack; /* all extra roots */
 
 /* ---- Opening and closing */
+
+/* The thread's code calls this after each flip, in the program's own thread. */
+static void flipped(void *nothing)
+{
+    (void)nothing;
+    run_after_flip();
+}
 
 static uint32_t open_words(uint32_t words, uint32_t extra_roots, FILE *trace)
 {
@@ -19,9 +25,11 @@ static uint32_t open_words(uint32_t words, uint32_t extra_roots, FILE *trace)
     if (trace != NULL)
         stop("a trace of a heap with a collector's thread");
     uint32_t answer = gcflip_thread_open(&thread, words, extra_roots, &pace);
-    if (answer == GCFLIP_DONE)
+    if (answer == GCFLIP_DONE) {
         mutator = gcflip_thread_mutator(thread);
-    end = extra_roots;
+        gcflip_thread_on_flip(thread, flipped, NULL);
+    }
+    stack = (gcflip_frame){.end = extra_roots};
     return answer;
 }
 
@@ -39,28 +47,18 @@ static uint32_t look(enum slot slot, gcflip_view *view)
     return answer;
 }
 
-static uint32_t copy_root(uint32_t to, uint32_t from)
+static uint32_t move_value(enum slot to, enum slot from)
 {
     uint32_t answer;
     TIME_CALL(answer, gcflip_beside_copy, mutator, to, from);
     return answer;
 }
 
-static uint32_t move_value(enum slot to, enum slot from)
-{
-    return copy_root(to, from);
-}
-
-static uint32_t clear_root(uint32_t root)
-{
-    uint32_t answer;
-    TIME_CALL(answer, gcflip_beside_set_nil, mutator, root);
-    return answer;
-}
-
 static uint32_t set_nil(enum slot slot)
 {
-    return clear_root(slot);
+    uint32_t answer;
+    TIME_CALL(answer, gcflip_beside_set_nil, mutator, slot);
+    return answer;
 }
 
 static uint32_t set_number(enum slot slot, uint64_t number)
@@ -77,28 +75,27 @@ static uint32_t same_values(enum slot first, enum slot second)
     return answer;
 }
 
-/* ---- Extra roots: the stack's values from the first one on, and nil above them */
+/* ---- Extra roots: the stack */
 
 static uint32_t push(enum slot value)
 {
-    if (top == end)
-        return GCFLIP_FRAME_FULL;
-    return copy_root(GCFLIP_BESIDE_ROOTS + top++, value);
+    uint32_t answer;
+    TIME_CALL(answer, gcflip_beside_frame_push, mutator, value, &stack);
+    return answer;
 }
 
 static uint32_t pop(enum slot to)
 {
-    if (top == 0)
-        return GCFLIP_FRAME_EMPTY;
-    uint32_t root = GCFLIP_BESIDE_ROOTS + --top, answer = copy_root(to, root);
-    return answer == GCFLIP_DONE ? clear_root(root) : answer;
+    uint32_t answer;
+    TIME_CALL(answer, gcflip_beside_frame_pop, mutator, to, &stack);
+    return answer;
 }
 
 static uint32_t clear_all_roots(void)
 {
-    uint32_t answer = GCFLIP_DONE;
-    while (top > 0 && answer == GCFLIP_DONE)
-        answer = clear_root(GCFLIP_BESIDE_ROOTS + --top);
+    uint32_t answer;
+    stack.top = stack.first;
+    TIME_CALL(answer, gcflip_beside_frame_trim, mutator, &stack, UINT32_MAX);
     return answer;
 }
 
@@ -132,11 +129,40 @@ static uint32_t put_field(enum slot object, uint32_t field, enum slot value)
     return answer;
 }
 
-/* There is no call for a field that holds a number, so the number goes through a slot. */
 static uint32_t put_number(enum slot object, uint32_t field, uint64_t number)
 {
-    uint32_t answer = set_number(WORD, number);
-    return answer == GCFLIP_DONE ? put_field(object, field, WORD) : answer;
+    uint32_t answer;
+    TIME_CALL(answer, gcflip_beside_put_number, mutator, object, field, number);
+    return answer;
+}
+
+static uint32_t copy_fields(enum slot to, enum slot from, uint32_t fields)
+{
+    uint32_t answer;
+    TIME_CALL(answer, gcflip_beside_copy_fields, mutator, to, 0, from, 0, fields);
+    return answer;
+}
+
+/* ---- Addresses */
+
+static uint32_t address(enum slot object, uint32_t *told)
+{
+    uint32_t answer;
+    TIME_CALL(answer, gcflip_beside_address, mutator, object, told);
+    return answer;
+}
+
+/* Comes within the call of a safepoint or a collection, whose time has this one. */
+static uint32_t moved(uint32_t old, uint32_t *now)
+{
+    return gcflip_beside_moved(mutator, old, now);
+}
+
+static uint32_t refer_to(enum slot to, uint32_t place)
+{
+    uint32_t answer;
+    TIME_CALL(answer, gcflip_beside_refer, mutator, to, place);
+    return answer;
 }
 
 /* ---- Collecting */
@@ -148,13 +174,12 @@ static uint32_t safepoint_of_thread(void)
     return answer;
 }
 
-/* The thread keeps its own pace: a safepoint waits for it if the program is ahead. */
+/* The thread keeps its own pace: this waits for it if the program is ahead, or if the words are not free. The caller looks whether they are. */
 static void pay(uint32_t words, uint32_t room)
 {
-    (void)words;
-    (void)room;
-    if (safepoint_of_thread() != GCFLIP_DONE)
-        stop("safepoint");
+    uint32_t answer;
+    TIME_CALL(answer, gcflip_thread_reserve, thread, room + words);
+    (void)answer;
 }
 
 static uint32_t collect(void)
@@ -194,10 +219,10 @@ const struct heap_calls heap_beside = {
     .get = get_field,
     .put = put_field,
     .put_number = put_number,
-    .copy_fields = NULL,
-    .address = NULL,
-    .moved = NULL,
-    .refer = NULL,
+    .copy_fields = copy_fields,
+    .address = address,
+    .moved = moved,
+    .refer = refer_to,
     .pay = pay,
     .safepoint = safepoint_of_thread,
     .collect = collect,

@@ -7,9 +7,17 @@
 /* The recorder performs `work` by single steps. If nothing is recorded, one call does it. */
 #undef gcflip_heap_work
 
-enum { MUTATOR = 0, STEPS_PER_WORD = 5 };
+/* A recording takes the shared slots 14 and 15. */
+enum { MUTATOR = 0, STEPS_PER_WORD = 5, SPARE = 14 };
 
-_Static_assert(WORD < SYMBOLS && SLOTS <= 32, "a mutator has 16 slots of its own and 16 shared ones");
+_Static_assert(WORD < SYMBOLS && SLOTS <= SYMBOLS + SPARE, "a mutator has 16 slots of its own, and there are 14 shared ones");
+
+/* Returns the root of a slot: the shared slots, which are SYMBOLS and those behind it, are the first 16 roots, and the mutator's own follow. A recording
+ * writes all of them as they are. */
+static uint32_t place_of(enum slot slot)
+{
+    return slot < SYMBOLS ? 16 + (uint32_t)slot : (uint32_t)slot - SYMBOLS;
+}
 
 FILE *gcflip_trace;
 
@@ -27,6 +35,7 @@ static uint32_t open_words(uint32_t words, uint32_t extra_roots, FILE *trace)
 {
     gcflip_options options = gcflip_options_default(words, MUTATOR + 1);
     gcflip_trace = trace;
+    gcflip_trace_spare = SPARE;
     size = words;
     options.extra_roots = extra_roots;
     stack.end = extra_roots;
@@ -43,35 +52,35 @@ static void close_all(void)
 static uint32_t look(enum slot slot, gcflip_view *view)
 {
     uint32_t answer;
-    TIME_CALL(answer, gcflip_heap_look, &heap, MUTATOR, (uint8_t)slot, view);
+    TIME_CALL(answer, gcflip_look, &heap, place_of(slot), view);
     return answer;
 }
 
 static uint32_t move_value(enum slot to, enum slot from)
 {
     uint32_t answer;
-    TIME_CALL(answer, gcflip_heap_move, &heap, MUTATOR, (uint8_t)to, (uint8_t)from);
+    TIME_CALL(answer, gcflip_copy, &heap, place_of(to), place_of(from));
     return answer;
 }
 
 static uint32_t set_nil(enum slot slot)
 {
     uint32_t answer;
-    TIME_CALL(answer, gcflip_heap_set_nil, &heap, MUTATOR, (uint8_t)slot);
+    TIME_CALL(answer, gcflip_set_nil, &heap, place_of(slot));
     return answer;
 }
 
 static uint32_t set_number(enum slot slot, uint64_t number)
 {
     uint32_t answer;
-    TIME_CALL(answer, gcflip_heap_set_number, &heap, MUTATOR, (uint8_t)slot, number);
+    TIME_CALL(answer, gcflip_set_number, &heap, place_of(slot), number);
     return answer;
 }
 
 static uint32_t same_values(enum slot first, enum slot second)
 {
     uint32_t answer;
-    TIME_CALL(answer, gcflip_heap_same, &heap, MUTATOR, (uint8_t)first, (uint8_t)second);
+    TIME_CALL(answer, gcflip_same, &heap, place_of(first), place_of(second));
     return answer;
 }
 
@@ -104,28 +113,28 @@ static uint32_t clear_all_roots(void)
 static uint32_t new_object(enum slot to, enum type type, uint32_t fields)
 {
     uint32_t answer;
-    TIME_CALL(answer, gcflip_heap_new_object, &heap, MUTATOR, (uint8_t)to, (uint8_t)type, (uint16_t)fields);
+    TIME_CALL(answer, gcflip_new, &heap, place_of(to), type, fields);
     return answer;
 }
 
 static uint32_t new_raw(enum slot to, enum type type, uint32_t fields)
 {
     uint32_t answer;
-    TIME_CALL(answer, gcflip_heap_new_raw, &heap, MUTATOR, (uint8_t)to, (uint8_t)type, (uint16_t)fields);
+    TIME_CALL(answer, gcflip_new_raw, &heap, place_of(to), type, fields);
     return answer;
 }
 
 static uint32_t get_field(enum slot to, enum slot object, uint32_t field, uint64_t *number)
 {
     uint32_t answer;
-    TIME_CALL(answer, gcflip_heap_get, &heap, MUTATOR, (uint8_t)to, (uint8_t)object, (uint16_t)field, number);
+    TIME_CALL(answer, gcflip_get, &heap, place_of(to), place_of(object), field, number);
     return answer;
 }
 
 static uint32_t put_field(enum slot object, uint32_t field, enum slot value)
 {
     uint32_t answer;
-    TIME_CALL(answer, gcflip_heap_put, &heap, MUTATOR, (uint8_t)object, (uint16_t)field, (uint8_t)value);
+    TIME_CALL(answer, gcflip_put, &heap, MUTATOR, place_of(object), field, place_of(value));
     writes += answer == GCFLIP_DONE;
     return answer;
 }
@@ -133,7 +142,7 @@ static uint32_t put_field(enum slot object, uint32_t field, enum slot value)
 static uint32_t put_number(enum slot object, uint32_t field, uint64_t number)
 {
     uint32_t answer;
-    TIME_CALL(answer, gcflip_heap_put_number, &heap, MUTATOR, (uint8_t)object, (uint16_t)field, WORD, number);
+    TIME_CALL(answer, gcflip_put_number, &heap, MUTATOR, place_of(object), field, number);
     writes += answer == GCFLIP_DONE;
     return answer;
 }
@@ -141,7 +150,7 @@ static uint32_t put_number(enum slot object, uint32_t field, uint64_t number)
 static uint32_t copy_fields(enum slot to, enum slot from, uint32_t fields)
 {
     uint32_t answer;
-    TIME_CALL(answer, gcflip_heap_copy_fields, &heap, MUTATOR, (uint8_t)to, 0, (uint8_t)from, 0, WORD, (uint16_t)fields);
+    TIME_CALL(answer, gcflip_copy_fields, &heap, MUTATOR, place_of(to), 0, place_of(from), 0, fields);
     writes += answer == GCFLIP_DONE ? fields : 0;
     return answer;
 }
@@ -151,21 +160,21 @@ static uint32_t copy_fields(enum slot to, enum slot from, uint32_t fields)
 static uint32_t address(enum slot object, uint32_t *told)
 {
     uint32_t answer;
-    TIME_CALL(answer, gcflip_heap_address, &heap, MUTATOR, (uint8_t)object, told);
+    TIME_CALL(answer, gcflip_address, &heap, place_of(object), told);
     return answer;
 }
 
 static uint32_t moved(uint32_t old, uint32_t *now)
 {
     uint32_t answer;
-    TIME_CALL(answer, gcflip_heap_moved, &heap, old, now);
+    TIME_CALL(answer, gcflip_moved, &heap, old, now);
     return answer;
 }
 
 static uint32_t refer_to(enum slot to, uint32_t place)
 {
     uint32_t answer;
-    TIME_CALL(answer, gcflip_heap_refer, &heap, MUTATOR, (uint8_t)to, place);
+    TIME_CALL(answer, gcflip_refer, &heap, place_of(to), place);
     return answer;
 }
 

@@ -36,7 +36,7 @@ struct heap_calls {
     uint32_t (*put)(enum slot object, uint32_t field, enum slot value);
     uint32_t (*put_number)(enum slot object, uint32_t field, uint64_t number);
 
-    /* What tables by identity and weak pairs need. All four are NULL in a heap without addresses. */
+    /* What tables by identity and weak pairs need. `moved` is called by the functions of `run_after_flip` alone. */
     uint32_t (*copy_fields)(enum slot to, enum slot from, uint32_t fields);
     uint32_t (*address)(enum slot object, uint32_t *address);
     uint32_t (*moved)(uint32_t address, uint32_t *now);

@@ -156,10 +156,8 @@ static bool make_lisp(void)
     make_constants();
     make_keywords();
     make_primitives();
-    if (has_addresses()) {
-        make_finalizers();
-        follow_weak_pairs();
-    }
+    make_finalizers();
+    follow_weak_pairs();
     struct source source = source_of_string(prelude, "prelude");
     return run(&source) == ENDED && reserve_room();
 }

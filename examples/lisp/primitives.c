@@ -39,12 +39,6 @@ const char *running_name(void)
     return running->name;
 }
 
-void check_addresses(void)
-{
-    if (!has_addresses())
-        fail("%s is not there with --beside: that heap has no addresses", running_name());
-}
-
 enum next call_primitive(uint32_t given)
 {
     running = primitive_of(FUNCTION);

@@ -35,9 +35,6 @@ const char *name_of_primitive(enum slot function);
 /* Returns the name of the running function. */
 const char *running_name(void);
 
-/* Ends in an error if the heap has no addresses, which the running function needs. */
-void check_addresses(void);
-
 uint32_t argument_count(void);
 
 /* Puts an argument, counted from 0, into the slot, and returns its type. */

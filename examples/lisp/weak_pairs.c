@@ -80,7 +80,6 @@ static uint32_t new_record(void)
 /* (weak-cons FIRST REST) */
 static enum next do_cons(void)
 {
-    check_addresses();
     enum type type = argument(A, 0);
     argument(B, 1);
     make(C, WEAK_PAIR, WEAK_FIELDS);

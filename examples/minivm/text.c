@@ -30,14 +30,9 @@ bool text_same(hp_root s, hp_root t)
     return hp_bytes_same(&vm, s, t);
 }
 
-/* Texts with the same bytes have the same words. */
 uint64_t text_hash(hp_root s)
 {
-    uint64_t hash = 1469598103934665603u;
-    uint32_t words = hp_look(&vm, s).count;
-    for (uint32_t i = 0; i < words; i++)
-        hash = (hash ^ hp_word(&vm, s, i)) * 1099511628211u;
-    return hash >> 32;
+    return hp_bytes_hash(&vm, s, 0);
 }
 
 void text_print(hp_root s)

@@ -109,7 +109,7 @@ def main():
         try:
             heap.flip()
         except NotReady as error:
-            print("The flip has to wait for the log:", error)
+            print("The flip has to wait for the log:", error.reply)
 
         print("\nThe log is applied:", *[heap.apply(0).value for _ in range(heap.log_length(0))])
         print("The replica of Hof is scanned:", scan_all(heap))
