@@ -1,10 +1,9 @@
 /* The machine on the proved heap whose collector works in a thread of its own: registers are the first roots, and both stacks are extra roots.
- * A safepoint comes before each block of words that the program allocates or writes, as the incremental heap asks its pace there. The heap has no command
- * for a pair or for a number in a field, so each is several commands here. */
+ * A safepoint comes before each block of words that the program allocates or writes, as the incremental heap asks its pace there. */
 #include "gcflip_thread.h"
 #include <malloc.h>
 
-enum { MUST_FREE = 0, KIND = 1, SCRATCH = 15, MADE_PAIR = 16, STACK_PLACE = GCFLIP_BESIDE_ROOTS, DEEP_PLACE = STACK_PLACE + STACK, WORDS_OF_MEGABYTE = 65536 };
+enum { MUST_FREE = 0, KIND = 1, SCRATCH = 15, STACK_PLACE = GCFLIP_BESIDE_ROOTS, DEEP_PLACE = STACK_PLACE + STACK, WORDS_OF_MEGABYTE = 65536 };
 /* So many words go from one safepoint to the next, unless an object has more. A write counts as a word. */
 enum { BLOCK = 64 };
 
@@ -12,7 +11,7 @@ static gcflip_thread *thread;
 static gcflip_mutator *mutator;
 static gcflip_thread_counts counts; /* at the end */
 static uint64_t number;
-static unsigned depth;
+static unsigned depth, high; /* the places of the stack from `depth` to `high` are those of values that were popped */
 static uint32_t deep_top, deep_high;
 static long credit; /* the words until the next safepoint */
 static unsigned long collections;
@@ -23,10 +22,24 @@ static inline void expect(uint32_t answer, uint32_t wanted, const char *what)
         give_up(what);
 }
 
+static inline void set_nil(uint32_t d)
+{
+    expect(gcflip_beside_set_nil(mutator, d), GCFLIP_DONE, "set_nil");
+}
+
+/* Clears the places of values that were popped. It comes before each safepoint, so that no collection finds them. */
+static inline void clear_popped(void)
+{
+    if (high > depth)
+        expect(gcflip_beside_clear(mutator, STACK_PLACE + depth, STACK_PLACE + high), GCFLIP_DONE, "clear");
+    high = depth;
+}
+
 /* Makes a safepoint, unless so many words are left until the next one. */
 static inline void pass(long words)
 {
     if (credit < words) {
+        clear_popped();
         expect(gcflip_thread_safepoint(thread), GCFLIP_DONE, "safepoint");
         credit = words > BLOCK ? words : BLOCK;
     }
@@ -36,6 +49,7 @@ static inline void pass(long words)
 /* Waits for a flip, since the heap is full. */
 static void collect(void)
 {
+    clear_popped();
     expect(gcflip_thread_collect(thread), GCFLIP_FLIPPED, "collect");
     credit = 0;
     waits++;
@@ -56,16 +70,6 @@ static inline void copy(int d, int s)
     expect(gcflip_beside_copy(mutator, (uint32_t)d, (uint32_t)s), GCFLIP_DONE, "copy");
 }
 
-static inline void set_nil(uint32_t d)
-{
-    expect(gcflip_beside_set_nil(mutator, d), GCFLIP_DONE, "set_nil");
-}
-
-static inline void write_field(int s, int i, int t)
-{
-    expect(gcflip_beside_put(mutator, (uint32_t)s, (uint32_t)i, (uint32_t)t), GCFLIP_DONE, "put");
-}
-
 static inline void make(int d, int fields)
 {
     pass(fields + 2);
@@ -78,33 +82,29 @@ static inline void make_numbers(int d, int fields)
     MADE(gcflip_beside_new_raw(mutator, (uint32_t)d, KIND, (uint32_t)fields));
 }
 
-/* The pair is made in a root of its own, which a flip may move, and copied once it is filled, because d may be s or t. */
 static inline void make_pair(int d, int s, int t)
 {
-    make(MADE_PAIR, 2);
-    write_field(MADE_PAIR, 0, s);
-    write_field(MADE_PAIR, 1, t);
-    copy(d, MADE_PAIR);
-    set_nil(MADE_PAIR);
+    pass(4);
+    MADE(gcflip_beside_new_pair(mutator, (uint32_t)d, KIND, (uint32_t)s, (uint32_t)t));
 }
 
 static inline void write_slot(int s, int i, int t)
 {
     pass(1);
-    write_field(s, i, t);
+    expect(gcflip_beside_put(mutator, (uint32_t)s, (uint32_t)i, (uint32_t)t), GCFLIP_DONE, "put");
 }
 
 static inline void write_number(int s, int i, uint64_t n)
 {
     pass(1);
-    expect(gcflip_beside_set_number(mutator, SCRATCH, n), GCFLIP_DONE, "set_number");
-    write_field(s, i, SCRATCH);
+    expect(gcflip_beside_put_number(mutator, (uint32_t)s, (uint32_t)i, n), GCFLIP_DONE, "put_number");
 }
 
 static inline void push_root(int s)
 {
     pass(1);
     copy(STACK_PLACE + (int)depth++, s);
+    high = high > depth ? high : depth;
 }
 
 static inline void new_object(int d, int fields) { TIMED(make(d, fields)); }
@@ -137,7 +137,6 @@ static inline bool same(int a, int b) { return gcflip_beside_same(mutator, (uint
 static inline void pop(int d)
 {
     copy(d, STACK_PLACE + (int)--depth);
-    set_nil(STACK_PLACE + depth);
 }
 
 static inline void push_deep(int s)
@@ -161,8 +160,9 @@ static inline void drop_deep(uint32_t left) { deep_top = left; }
 
 static inline void trim(uint32_t most)
 {
-    for (; deep_high > deep_top && most > 0; most--)
-        set_nil(DEEP_PLACE + --deep_high);
+    uint32_t low = deep_high - deep_top > most ? deep_high - most : deep_top;
+    expect(gcflip_beside_clear(mutator, DEEP_PLACE + low, DEEP_PLACE + deep_high), GCFLIP_DONE, "clear");
+    deep_high = low;
 }
 
 static inline void trim_deep(uint32_t most)

@@ -2,7 +2,7 @@
  *
  * A program makes short lists in a heap of 2^22 words, on the library's pace, and keeps a list of KEPT pairs, 100,000 by default. It does so with no extra
  * root, with ROOTS of them in use (2^20 by default), and with as many while it stores nil, numbers and references to low ones at random, four for each
- * short list. It does the same in each of ROUNDS rounds, 7 by default. Prints the longest call of work: of each call the least time of all rounds, and
+ * short list. The roots refer to 1,024 objects; where there are none, the list has as many pairs more. It does the same in each of ROUNDS rounds, 7 by default. Prints the longest call of work: of each call the least time of all rounds, and
  * of these the greatest; and the time that 99.9 % of the calls do not exceed. */
 #include "timed_calls.h"
 
@@ -49,7 +49,7 @@ static void open_heap(uint32_t roots, uint32_t kept)
             must(gcflip_new(&heap, ROOT + k, 1, 2), GCFLIP_MADE, "new");
         else
             must(gcflip_copy(&heap, ROOT + k, ROOT + k % OBJECTS), GCFLIP_DONE, "copy");
-    for (uint32_t k = 0; k < kept; k++)
+    for (uint32_t k = 0; k < (roots == 0 ? kept + OBJECTS : kept); k++)
         extend(KEPT);
     must(gcflip_heap_pace(&heap, &pace), GCFLIP_DONE, "pace");
 }
