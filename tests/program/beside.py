@@ -1,21 +1,19 @@
 """Tests of the library for C whose collector works in another thread: programs of tests/c that call it, and the example.
 
 It tests libgcflip_beside.a, built and installed by bindings/c, with its two headers: each answer, each close and each refused allocation, in one
-thread and in two, also by valgrind; the stops of a flip; the pace of the thread; random commands beside a collector's thread under six schedules, a million in all, compared with a machine that never collects; the source
+thread and in two, also by valgrind; each allocation of a whole run, refused in turn in either thread; calls of many commands; calls by address, and a table of them that follows each flip; the stops of a flip; the pace of the thread; random commands beside a collector's thread under six schedules, a million in all, compared with a machine that never collects; the source
 gcflip_thread.c with sanitizers, ThreadSanitizer among them; the headers by C99 and C++11; the exported symbols; a run of examples/beside. It reports
 what it skips for lack of a tool.
 """
 import os
 import re
 
-from .c_builds import SANITIZERS, SOURCES, TOP, VALGRIND, WARNINGS, Library, compilers, done, has_valgrind, library, usable
+from .c_builds import SANITIZERS, THREAD_SANITIZER, TOP, VALGRIND, WARNINGS, Library, compilers, done, has_valgrind, helgrind, library, thread_sanitizer_options, usable
 from .harness import Outcome, difference, file_of
 
 BINDINGS = os.path.join(TOP, "bindings", "c")
 HEADERS = ["gcflip_beside.h", "gcflip_thread.h"]
 DECLARED = re.compile(r"^(?:\w+ \*?)(gcflip_(?:beside|thread)_\w+)\(", re.M)
-# In glibc a wait until a time signals by itself, without the lock, which Helgrind calls dubious.
-TIMED_WAITS = b"{\n   timed_waits\n   Helgrind:Misc\n   ...\n   fun:__pthread_cond_wait_common\n   fun:pthread_cond_timedwait*\n   ...\n}\n"
 # The commands of each schedule, of which beside_threads.c has six.
 COMMANDS = 170000
 EXAMPLE_LINES = re.compile(rb"trees: 2000, sum of the last ones: 16117760\nflips: [1-9]\d*, stops: [1-9]\d*\nwaited at safepoints: [0-9.]+ ms, longest wait: [0-9.]+ ms\n")
@@ -39,7 +37,7 @@ def programs(_program, folder):
     for name, words, _cpp in compilers():
         if not usable(folder, name, words):
             continue
-        for source in ("beside.c", "beside_refused.c", "beside_stops.c", "beside_pace.c"):
+        for source in ("beside.c", "beside_bulk.c", "beside_refused.c", "beside_stops.c", "beside_pace.c", "beside_addresses.c", "beside_tables.c"):
             path, why = built.build(words, source, built.archive())
             yield "%s by %s" % (source, name), why or difference(done([path]), Outcome())
         path, why = built.build(words, "beside_threads.c", built.archive())
@@ -52,13 +50,14 @@ def sanitized(_program, folder):
     if built is None:
         return
     source = os.path.join(BINDINGS, "gcflip_thread.c")
-    for kind, words in [("sanitizers", SANITIZERS), ("ThreadSanitizer", ["-fsanitize=thread", "-g"])]:
+    environment = thread_sanitizer_options(folder)
+    for kind, words in [("sanitizers", SANITIZERS), ("ThreadSanitizer", THREAD_SANITIZER)]:
         if usable(folder, "beside_threads.c with %s" % kind, ["gcc", *words]):
-            for name, arguments in [("beside_threads.c", ["5000", "2"]), ("beside_pace.c", [])]:
+            for name, arguments in [("beside_threads.c", ["5000", "2"]), ("beside_pace.c", []), ("beside_tables.c", ["50", "2"])]:
                 path, why = built.build(["gcc", *words], name, [source, *built.archive()])
-                yield "%s with %s" % (name, kind), why or difference(done([path, *arguments]), Outcome())
+                yield "%s with %s" % (name, kind), why or difference(done([path, *arguments], env=environment), Outcome())
     if has_valgrind("beside.c"):
-        for name, words in [("beside.c", []), ("beside_refused.c", []), ("beside_threads.c", ["2000", "3"])]:
+        for name, words in [("beside.c", []), ("beside_bulk.c", []), ("beside_refused.c", []), ("beside_addresses.c", []), ("beside_threads.c", ["2000", "3"]), ("beside_tables.c", ["10", "3"])]:
             path, why = built.build(["gcc"], name, built.archive())
             yield "%s by valgrind" % name, why or difference(done([*VALGRIND, path, *words]), Outcome())
 
@@ -91,8 +90,7 @@ def example(_program, folder):
     ran = done([path, "2000"])
     yield "examples/beside", None if ran.status == 0 and EXAMPLE_LINES.fullmatch(ran.stdout) else "status %d: %s%s" % (ran.status, ran.stdout.decode(), ran.stderr.decode())
     if has_valgrind("examples/beside"):
-        suppressions = "--suppressions=" + file_of(folder, "timed_waits", TIMED_WAITS)
-        raced = done(["valgrind", "-q", "--tool=helgrind", "--history-level=none", suppressions, "--error-exitcode=9", path, "3000"])
+        raced = done([*helgrind(folder), path, "3000"])
         yield "examples/beside by helgrind", None if raced.status == 0 else "status %d: %s" % (raced.status, raced.stderr.decode()[-2000:])
 
 

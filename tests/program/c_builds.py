@@ -22,6 +22,11 @@ WARNINGS = ["-Wall", "-Wextra", "-Wpedantic", "-Werror"]
 SANITIZERS = ["-g", "-fsanitize=address,undefined", "-fno-sanitize-recover=all"]
 # Runs a program, and ends it with status 99 if it reads what was never written, or loses a block.
 VALGRIND = ["valgrind", "-q", "--error-exitcode=99", "--leak-check=full"]
+THREAD_SANITIZER = ["-fsanitize=thread", "-g"]
+# ThreadSanitizer sees a call of memcpy in the archive, and not the archive's atomic steps by which the mutator was handed over before.
+HANDED_OVER = b"race:^gcflip_beside_\n"
+# In glibc a wait until a time signals by itself, without the lock, which Helgrind calls dubious.
+TIMED_WAITS = b"{\n   timed_waits\n   Helgrind:Misc\n   ...\n   fun:__pthread_cond_wait_common\n   fun:pthread_cond_timedwait*\n   ...\n}\n"
 
 
 def done(words, timeout=SECONDS, **more):
@@ -140,6 +145,17 @@ def has_valgrind(what):
         skip("%s by valgrind" % what, "it is missing")
         return False
     return True
+
+
+def helgrind(folder):
+    """Returns the words that run a program with a collector's thread by Helgrind. Its status is 9 if there is a race."""
+    suppressions = "--suppressions=" + file_of(folder, "timed_waits", TIMED_WAITS)
+    return ["valgrind", "-q", "--tool=helgrind", "--history-level=none", suppressions, "--error-exitcode=9"]
+
+
+def thread_sanitizer_options(folder):
+    """Returns the environment of a program with a collector's thread that is built with ThreadSanitizer."""
+    return dict(os.environ, TSAN_OPTIONS="suppressions=" + file_of(folder, "handed_over", HANDED_OVER))
 
 
 def instructions(path, arguments, folder, *options):

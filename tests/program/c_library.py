@@ -271,7 +271,7 @@ def recording_that_ends(program, folder):
     path, why = built.build(["gcc", *SANITIZERS], "record_ends.c", built.archive())
     said = b"gcflip_record.h: the recording ends here: a trace has no size of 1048577 words\n"
     said += said
-    needed = 2 * [b"a number"] + [b"nil", b"a value"] + 4 * [b"bytes"] + 11 * [b"a root of another mutator"] + [b"words"]
+    needed = 2 * [b"a number"] + [b"nil", b"a value"] + 4 * [b"bytes"] + 11 * [b"a root of another mutator"] + [b"words", b"numbers"]
     said += b"".join(b"gcflip_record.h: the recording ends here: gcflip_trace_spare gives no slots for %s\n" % purpose for purpose in needed)
     said += 12 * b"gcflip_record.h: the recording ends here: a trace has no root at place 272\n"
     said += 2 * b"gcflip_record.h: the recording ends here: a trace has no reference by the address 1\n"
@@ -297,7 +297,8 @@ def reads_of_roots(folder, words):
 
 def root_reads(_program, folder):
     """Counts how often a whole collection reads roots. Searches read an extra root at most four times: where its target has no replica, which the choice of
-    the step and the step find, where it gets its twin, and where the checker compares both; and a slot at most once for each command that wrote a slot;
+    the step and the step find, where it gets its twin, and where the checker compares both. They read it once more if a row of looks ended there, as none
+    does here. They read a slot at most once for each command that wrote a slot;
     where commands wrote only numbers and nil, at most once altogether. A flip reads each root that it moves, and its checker compares both: the slots alone if it goes along, and otherwise all."""
     built = library(folder)
     if built is None:
@@ -467,11 +468,12 @@ def live_and_far(_program, folder):
     yield "far.c", why or difference(done([path, "2048"]), Outcome(wanted))
 
 
-PARTS_OF_PAGES = ("touch", "slices", "rest")
+PARTS_OF_PAGES = ("touch", "slices", "release", "rest")
 
 
 def pages(_program, folder):
-    """Tests that a heap that was touched meets no new page, and that old spaces of another size are given back, in slices or at a begin."""
+    """Tests that a heap that was touched meets no new page, that old spaces of another size are given back, in slices or at a begin, and that a release gives
+    back the pages behind the heap's end."""
     built = library(folder)
     if built is None:
         return

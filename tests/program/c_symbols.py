@@ -160,7 +160,8 @@ def answers(_program, _folder):
 
 
 # Files of definitions by which contracts name answers, and the answers of gcflip_images.h, which has no contracts.
-DEFINITIONS = [("gc_check", "InC"), ("gcflip_c", "Answers"), ("gc_in_c", "Answers"), ("gc_in_c", "Replies"), ("gcflip_heap_c", "Answers"), ("gcflip_heap_c", "Replies"), ("gcflip_heap_c", "Room")]
+DEFINITIONS = [("gc_check", "InC"), ("gcflip_c", "Answers"), ("gc_in_c", "Answers"), ("gc_in_c", "Replies"), ("gcflip_heap_c", "Answers"), ("gcflip_heap_c", "Replies"), ("gcflip_heap_c", "Room"),
+               ("gcflip_beside_c", "Answers")]
 WITHOUT_CONTRACTS = {"FAULTY", "NOT_BEGUN"}
 IN_DEFINITION = re.compile(r"(?m)^(?:\w+|(?:seen|reply|step_reply)_in_c .*) = (\d+)$")
 # Prints the class of each number that has room in the enum, and more.
@@ -173,22 +174,46 @@ int main(void)
     return 0;
 }
 """
+# Prints what it says of each of them.
+TEXTS_IN_C = CLASSES_IN_C.replace(b"%u", b"%s").replace(b"gcflip_class_of", b"gcflip_answer_text")
 # Prints the names of each exception and of its bases.
 CLASSES_IN_PYTHON = """import gcflip.errors as errors
 for kind in vars(errors).values():
     if isinstance(kind, type) and issubclass(kind, errors.GcflipError):
         print(*[base.__name__ for base in kind.__mro__])
 """
+# Prints the name of each exception that a heap raises, the text of one without an argument, and what it has for a text.
+TEXTS_IN_PYTHON = """import gcflip.heap as heap
+for kind in {**heap.NOTHING_DONE, **heap.REFUSED}.values():
+    print(kind.__name__, str(kind()), kind.sentence, sep="|")
+"""
 CLASSES = ("Ok", "Lack", "Mismatch", "Misuse")
 # Exceptions with another name than their answer, and the one that stands for none: a call within a call.
 ANSWER_OF = {"OutOfMemory": "NO_MEMORY", "TooManyPairs": "TOO_MANY", "TextTooLarge": "TOO_LARGE", "Reentered": None}
 # What the exceptions have beyond their answers: the bases of several.
 BASES = {"GcflipError", "Lack", "Mismatch", "Misuse", "HeapRefused", "BadText"}
+# The exceptions that calls on a heap raise for an answer.
+OF_HEAPS = {"OutOfMemory", "OutOfRange", "Closed", "Damaged", "Parked", "FrameFull", "FrameEmpty", "Full", "NoObject", "NoField", "NoNumber", "Busy", "Idle", "NotReady", "FlipRefused"}
 
 
 def answer_of(exception):
     """Returns the name of the answer that an exception stands for, or None."""
     return ANSWER_OF[exception] if exception in ANSWER_OF else re.sub(r"(?<!^)([A-Z])", r"_\1", exception).upper()
+
+
+def texts(_program, folder):
+    """Compares what the exceptions of a heap in Python say with what the header says of their answers."""
+    numbers = {name: int(number) for name, number in re.findall(r"(?m)^    GCFLIP_(\w+) = (\d+)", listed_answers())}
+    program = os.path.join(folder, "texts")
+    built = done(["gcc", *WARNINGS, "-I" + os.path.join(BINDINGS, "c"), "-o", program, file_of(folder, "texts.c", TEXTS_IN_C)])
+    yield "the texts are compiled", None if built.status == 0 else built.stderr.decode()
+    in_c = done([program]).stdout.decode().split("\n")
+    printed = done([sys.executable, "-c", TEXTS_IN_PYTHON], env=dict(os.environ, PYTHONPATH=os.path.join(BINDINGS, "python"), PYTHONDONTWRITEBYTECODE="1"))
+    rows = [line.split("|") for line in printed.stdout.decode().splitlines()]
+    yield "exceptions of a heap with texts", why_not_equal({row[0] for row in rows}, OF_HEAPS)
+    for name, text, sentence in rows:
+        wanted = in_c[numbers[answer_of(name)]]
+        yield "the text of %s in Python" % name, why_not_equal((text, sentence), (wanted, wanted)) if wanted else "the header has none"
 
 
 def classes(_program, folder):
@@ -208,7 +233,7 @@ def classes(_program, folder):
         wanted = "Misuse" if answer_of(name) is None else in_c[numbers[answer_of(name)]]
         yield "the class of %s in Python" % name, why_not_equal(exceptions[name] & set(CLASSES), {wanted})
     never_raised = {name for name, number in numbers.items() if in_c[number] != "Ok"} - {answer_of(name) for name in exceptions}
-    yield "answers without an exception", why_not_equal(never_raised, {"OPEN", "NO_ROOM", "NOT_BEGUN", "STARVED", "LONG_PATH"})
+    yield "answers without an exception", why_not_equal(never_raised, {"OPEN", "NO_ROOM", "NOT_BEGUN", "STARVED", "LONG_PATH", "NOT_YET"})
 
 
-GROUPS = [symbols, types, deprecated, answers, classes, versions]
+GROUPS = [symbols, types, deprecated, answers, classes, texts, versions]

@@ -12,7 +12,7 @@ import re
 
 from .c_builds import SANITIZERS, SOURCES, TOP, WARNINGS, done, has_valgrind, library, usable
 from .random import lists, played, wanted_by_c
-from .random_calls import FRAMES, FREE_LOOKS, LOOSE, PACED, PLACES, VECTORS
+from .random_calls import FRAMES, FREE_LOOKS, LOOSE, MOVES, PACED, PLACES, TEXTS, VECTORS
 
 BENCH = os.path.join(TOP, "bench", "embedding")
 TABLE = os.path.join(BENCH, "commands.txt")
@@ -86,9 +86,10 @@ def plain_c(_program, folder):
     words = ["gcc", "-std=gnu11", "-O1", *WARNINGS, *SANITIZERS, "-I" + os.path.join(built.prefix, "include"), "-o", driver]
     made = done([*words, "-DBASIC", os.path.join(SOURCES, "random_calls.c"), os.path.join(BENCH, "plain_c.c")])
     why = None if made.status == 0 else "not built: %s" % made.stderr.decode()
-    # Its extra roots have no places, and looks at them are free.
-    for part, more in [("plain C", {**PLACES, **VECTORS}), ("plain C with extra roots", {**LOOSE, **FRAMES, **FREE_LOOKS})]:
-        for name, calls in lists(part, PACED, more):
+    more = {**PLACES, **TEXTS, **VECTORS, **MOVES}
+    # Looks at its extra roots are free.
+    for part, roots in [("plain C", {}), ("plain C with extra roots", {**LOOSE, **FRAMES, **FREE_LOOKS})]:
+        for name, calls in lists(part, PACED, more, roots):
             yield name, why or played([driver], calls, wanted_by_c(calls))
 
 

@@ -348,7 +348,7 @@ def first_screen(_program, _folder):
 
 
 # How many words a page may have, and README and docs together without CERTIFY, which shows a whole adapter. Pages that a tool makes are no part of the sum.
-MOST_WORDS, MOST_IN_ALL = {"README.md": 1300, "docs/EMBEDDING.md": 3000, CERTIFY: 8000}, 38600
+MOST_WORDS, MOST_IN_ALL = {"README.md": 1300, "docs/EMBEDDING.md": 3000, CERTIFY: 8000}, 39000
 MADE = re.compile(r"`tools/\w+ --write` makes this (?:page|list)")
 
 

@@ -4,6 +4,7 @@ It keeps the words themselves: a list of words for each space, and a list of roo
 """
 
 OWN = SHARED = 16
+MOST_BYTES = 458745
 FLAG, RAW_FLAG = 1 << 24, 3 << 24
 
 
@@ -84,8 +85,23 @@ class Looks:
         """Notes a look that found nothing to copy. If the root is nil, and the last one in use too, that is not in use any more."""
         self.again.discard(k)
         self.front = max(self.front, k + 1)
-        if words[k] == 0 and self.used > 0 and words[self.used - 1] == 0:
-            self.used -= 1
+        self.trim(words, 1 if words[k] == 0 else 0)
+
+    def look_on(self, words, copied, most):
+        """Looks at extra roots in a row from `front` on, if none was written since, up to one that has something to copy, and at no more than `most`, if a number
+        is given. As many of the last ones in use, if they are nil, are not in use any more. Returns how many they are."""
+        ahead = max(0, max(self.used, self.stale) - self.front) if not self.again else 0
+        count = ahead if most is None else min(ahead, most)
+        row = next((n for n in range(count) if not copied(words[self.front + n])), count)
+        self.front += row
+        self.trim(words, row)
+        return row
+
+    def trim(self, words, most):
+        """Notes that the last extra roots in use are not in use any more, if they are nil: at most so many."""
+        for _ in range(most):
+            if self.used > 0 and words[self.used - 1] == 0:
+                self.used -= 1
 
     def left(self, is_open):
         if not is_open:
@@ -262,6 +278,11 @@ class Model:
             self.looks.cleared(d - self.extra(0))
         return self.nil(0, Place(d))
 
+    def place_clear(self, first, end):
+        for p in range(first, end):
+            assert self.place_nil(p) == "done"
+        return "done"
+
     def place_copy(self, d, s):
         return self.written(d, self.move(0, Place(d), Place(s)))
 
@@ -332,7 +353,9 @@ class Model:
 
     def place_join(self, m, d, kind, s, t):
         one, other = self.text(s), self.text(t)
-        return "no object" if one is None or other is None else self.new_text(m, d, kind, one + other)
+        if one is None or other is None:
+            return "no object"
+        return "out of range" if len(one + other) > MOST_BYTES else self.new_text(m, d, kind, one + other)
 
     def place_part(self, m, d, kind, s, at, count):
         text = self.text(s)
@@ -363,6 +386,27 @@ class Model:
         fields = self.space.fields(at)
         count = len(fields) - (len(fields) + 63) // 64
         return [fields[i] + ((fields[count + i // 63] >> i % 63 & 1) << 63) for i in range(count)]
+
+    def raw(self, s):
+        """Returns the numbers of the raw object of the root at this place, or None if it refers to none."""
+        at = self.target(0, Place(s))
+        return self.space.fields(at) if at is not None and self.space.is_raw(at) else None
+
+    def place_raw_write(self, m, s, first, *written):
+        numbers = self.raw(s)
+        if numbers is None or first + len(written) > len(numbers):
+            return "no object" if numbers is None else "no field"
+        if any(number >> 63 for number in written):
+            return "no number"
+        for i, number in enumerate(written):
+            assert self.write(m, Place(s), first + i, 2 * number + 1) == "done"
+        return "done"
+
+    def place_raw_read(self, s, first, count):
+        numbers = self.raw(s)
+        if numbers is None or first + count > len(numbers):
+            return "no object" if numbers is None else "no field"
+        return " ".join(["read", *map(str, numbers[first:first + count])])
 
     def place_write_words(self, m, s, at, *written):
         vector = self.vector(s)
@@ -475,7 +519,11 @@ class Model:
             if not self.copied(words[k]):
                 return looks, True
             self.looks.looked(k, words)
-            looks, k = looks + 1, self.looks.next()
+            looks += 1
+            # One root alone may be known because the last step has copied its target, so that a row begins behind the second one.
+            if looks > 1:
+                looks += self.looks.look_on(words, self.copied, None if most is None else most - looks)
+            k = self.looks.next()
         return looks, k is None
 
     def step_roots(self):
@@ -573,7 +621,7 @@ class Model:
         self.left = len(self.space.words) if last.startswith("flipped") else self.left
         self.end, self.logged, self.looks_then = len(self.space.words), self.entries(), self.looks_left()
         units = len(made) + looks // 32
-        took = self.words > 0 and max(units, copied, looks) >= self.words
+        took = self.words > 0 and max(units, copied, looks // 2) >= self.words
         self.owed = max(0, due - units) if took and not last.startswith("flipped") and last != "no room" else 0
 
     def steps_due(self, wanted):

@@ -17,7 +17,7 @@ import subprocess
 import tempfile
 import time
 
-from .c_builds import SANITIZERS, SOURCES as C_SOURCES, TOP, VALGRIND, WARNINGS, Library, done, has_valgrind, library, usable
+from .c_builds import SANITIZERS, SOURCES as C_SOURCES, THREAD_SANITIZER, TOP, VALGRIND, WARNINGS, Library, done, has_valgrind, helgrind, library, thread_sanitizer_options, usable
 from .documents import blocks
 from .harness import Outcome, difference, file_of, run
 
@@ -38,11 +38,8 @@ HEAPS = {
     "weak": [24000, 262144],
 }
 
-# The switch for the heap with a collector's thread, and what a program that needs addresses is told there: the position, and the function.
+# The switch for the heap with a collector's thread.
 BESIDE = "--beside"
-NO_ADDRESSES = "%s is not there with --beside: that heap has no addresses"
-PROGRAMS_WITH_ADDRESSES = {"identity": ("line 14, column 79", "make-eq-hashtable"), "weak": ("line 9, column 16", "weak-cons")}
-FUNCTIONS_WITH_ADDRESSES = ["(make-eq-hashtable)", "(make-weak-eq-hashtable)", "(weak-cons 1 2)", "(finalize! car car)", "(next-finalizer)"]
 
 # The input, and the printed values, with | or spaces between them.
 EVALUATED = {
@@ -181,6 +178,7 @@ class Lisp:
     """The Lisp, built by a compiler."""
 
     def __init__(self, built, name, compiler, more=()):
+        self.built = built
         self.path = os.path.join(built.folder, "lisp by %s" % name)
         self.options = []
         words = [*compiler, "-std=c11", "-O2", "-pthread", *WARNINGS, "-I" + os.path.join(built.prefix, "include"), "-I" + FOLDER, "-o", self.path]
@@ -193,8 +191,8 @@ class Lisp:
         other.options = [BESIDE]
         return other
 
-    def has_addresses(self):
-        return self.options == []
+    def is_beside(self):
+        return self.options == [BESIDE]
 
     def run(self, text, *words, **more):
         return done([self.path, *self.options, *words], input=text.encode(), **more)
@@ -220,11 +218,6 @@ def lisps_on_both_heaps():
     return [(name + on, on_heap) for name, lisp in built_lisps() for on, on_heap in [("", lisp), (" " + BESIDE, lisp.beside())]]
 
 
-def needs_addresses(text):
-    """Returns whether a text calls one of the functions that a heap with a collector's thread does not have."""
-    return re.search(r"\((make-(weak-)?eq-hashtable|weak-cons|finalize!|next-finalizer)[ )]", text) is not None
-
-
 def content(name):
     with open(os.path.join(PROGRAMS, name), "rb") as file:
         return file.read()
@@ -242,7 +235,7 @@ def calls_of(outcome):
 
 
 def programs(_program, _folder):
-    """Checks that each program prints what its comments derive, or is told at once which function its heap lacks."""
+    """Checks that each program prints what its comments derive, on both heaps."""
     known = sorted(name[:-len(".lisp")] for name in os.listdir(PROGRAMS) if name.endswith(".lisp"))
     yield "each program has a heap", None if known == sorted(HEAPS) else "there are %s" % known
     for way, lisp in lisps_on_both_heaps():
@@ -250,41 +243,34 @@ def programs(_program, _folder):
         for name, heaps in HEAPS.items() if lisp.why is None else []:
             for heap in heaps:
                 found = lisp.run_program(name, "--heap", str(heap))
-                yield "%s in %d words, %s" % (name, heap, way), difference(found, printed_by(lisp, name))
-
-
-def printed_by(lisp, name):
-    """Returns the outcome of a program: its output, or the error of the first function that the heap lacks."""
-    if lisp.has_addresses() or name not in PROGRAMS_WITH_ADDRESSES:
-        return Outcome(content(name + ".output"))
-    place, function = PROGRAMS_WITH_ADDRESSES[name]
-    error = "error: %s, %s: %s\n" % (os.path.join(PROGRAMS, name + ".lisp"), place, NO_ADDRESSES % function)
-    return Outcome(b"", error.encode(), 1)
+                yield "%s in %d words, %s" % (name, heap, way), difference(found, Outcome(content(name + ".output")))
 
 
 def collector_threads(_program, _folder):
-    """Checks that the collector's thread has flipped, and that the functions that its heap lacks say so."""
+    """Checks that the collector's thread has flipped, and that only its heap is called."""
     for way, lisp in lisps_on_both_heaps():
-        if lisp.has_addresses() or lisp.why is not None:
+        if not lisp.is_beside() or lisp.why is not None:
             continue
         found = lisp.run_program("churn", "--heap", "20000", "--pauses")
         flips, stops, _, longest, words, waits = [float(number) for number in THREAD_TOTALS.search(found.stderr).groups()]
-        # A flip frees at most the whole heap, which is empty at the beginning. Safepoints keep the collector ahead of allocations.
+        # A flip frees at most the whole heap, which is empty at the beginning. The calls that reserve room keep the collector ahead of allocations.
         is_right = flips >= words / 20000 - 1 >= 100 and stops >= flips and longest > 0 and waits == 0
         yield "flips of churn, %s" % way, None if is_right else found.stderr[-300:]
         foreign = [name for name in calls_of(found) if not name.startswith(("gcflip_beside_", "gcflip_thread_"))]
         yield "calls of churn, %s" % way, "there are %s" % foreign if foreign else None
         calls = calls_of(lisp.run("1 " * 100, "--pauses"))
         allocations = calls["gcflip_beside_new"] + calls.get("gcflip_beside_new_raw", 0)
-        # Each allocation is a safepoint, and so is each of the evaluator's steps. A number takes two: its value is found, and no frame is left.
-        wanted = allocations + 2 * 100
-        found = calls["gcflip_thread_safepoint"]
-        yield "safepoints of 100 numbers, %s" % way, None if found == wanted and allocations >= 100 else "%d with %d allocations" % (found, allocations)
+        # Each allocation reserves its room, and each of the evaluator's steps is a safepoint. A number takes two: its value is found, and no frame is left.
+        reserved, found = calls["gcflip_thread_reserve"], calls["gcflip_thread_safepoint"]
+        is_right = reserved == allocations >= 100 and found == 2 * 100
+        yield "safepoints of 100 numbers, %s" % way, None if is_right else "%d, and %d with %d allocations" % (found, reserved, allocations)
         raw = calls_of(lisp.run("\"four\" \"texts\" \"of\" \"words\"", "--pauses")).get("gcflip_beside_new_raw")
         yield "strings are raw objects, %s" % way, None if raw == 4 else "%s, wanted 4" % raw
-        for text in FUNCTIONS_WITH_ADDRESSES:
-            error = "error: input, line 1, column 1: %s\n" % (NO_ADDRESSES % text[1:-1].split()[0])
-            yield "%s, %s" % (text, way), difference(lisp.run(text + "\n(+ 1 2)\n"), Outcome(b"3\n", error.encode()))
+        # Sanitizers would take minutes.
+        if way == "gcc " + BESIDE:
+            found = lisp.run(LARGE_TABLE % "make-weak-eq-hashtable", "--heap", "1000000", "--pauses")
+            is_right = found.stdout == b"16384\n134209536\n16384\n1\n" and int(THREAD_TOTALS.search(found.stderr).group(1)) > 5
+            yield "16384 entries, %s" % way, None if is_right else "%r, %r" % (found.stdout, found.stderr[-300:])
 
 
 def by_valgrind(_program, _folder):
@@ -298,25 +284,44 @@ def by_valgrind(_program, _folder):
     for name, (text, printed) in texts.items() if lisp.why is None else []:
         found = done([*VALGRIND, lisp.path, "--heap", "20000"], input=(text + "\n").encode())
         yield "%s, by valgrind" % name, difference(found, Outcome(printed.encode()))
-    for name in ("lists", "strings", "a loop") if lisp.why is None else []:
+    for name in ("lists", "strings", "hashtables", "weak pairs", "a loop") if lisp.why is None else []:
         text, printed = texts[name]
         found = done([*VALGRIND, lisp.path, BESIDE, "--heap", "20000"], input=(text + "\n").encode())
         yield "%s, %s by valgrind" % (name, BESIDE), difference(found, Outcome(printed.encode()))
 
 
+def races(_program, folder):
+    """Checks that no race is found in the Lisp beside a collector's thread: neither by Helgrind, nor by ThreadSanitizer, which sees the Lisp and
+    gcflip_thread.c, and not the archive. The threads meet at flips, after which tables are followed."""
+    if not built_lisps():
+        return
+    _, lisp = built_lisps()[0]
+    if has_valgrind("examples/lisp") and lisp.why is None:
+        text = b"(define (spin n) (if (= n 0) 'done (spin (- n 1)))) (spin 5000)\n"
+        found = done([*helgrind(folder), lisp.path, BESIDE, "--heap", "20000", "--pauses"], input=text)
+        totals = THREAD_TOTALS.search(found.stderr)
+        is_right = found.status == 0 and found.stdout == b"done\n" and totals and int(totals.group(1)) > 0
+        yield "examples/lisp %s by helgrind" % BESIDE, None if is_right else "status %d: %s" % (found.status, found.stderr.decode()[-2000:])
+    if usable(folder, "examples/lisp with ThreadSanitizer", ["gcc", *THREAD_SANITIZER]):
+        watched = Lisp(lisp.built, "ThreadSanitizer", ["gcc", *THREAD_SANITIZER], [os.path.join(TOP, "bindings", "c", "gcflip_thread.c")])
+        yield "examples/lisp with ThreadSanitizer", watched.why
+        if watched.why is None:
+            # The program `weak` would take minutes.
+            words = [watched.path, BESIDE, "--heap", "24000", "--pauses", os.path.join(PROGRAMS, "identity.lisp")]
+            found = done(words, env=thread_sanitizer_options(folder))
+            totals = THREAD_TOTALS.search(found.stderr)
+            is_right = found.status == 0 and found.stdout == content("identity.output") and totals and int(totals.group(1)) > 0
+            yield "identity %s with ThreadSanitizer" % BESIDE, None if is_right else "status %d: %s" % (found.status, found.stderr.decode()[-2000:])
+
+
 def evaluating(_program, _folder):
     """Checks values, errors with their places, and that the REPL continues after each error."""
     for way, lisp in lisps_on_both_heaps():
-        known = lisp.has_addresses()
         for name, (text, values) in EVALUATED.items() if lisp.why is None else []:
-            if needs_addresses(text) and not known:
-                continue
             lines = values.split("|" if "|" in values else " ")
             wanted = Outcome("".join(line + "\n" for line in lines).encode())
             yield "%s, %s" % (name, way), difference(lisp.run(text + "\n"), wanted)
         for text, error in WRONG:
-            if needs_addresses(text) and not known:
-                continue
             wanted = Outcome(b"", ("error: %s\n" % error).encode())
             yield "error of %s, %s" % (text[:40], way), difference(lisp.run(text), wanted)
             goes_on = lisp.run(text + "\n3\n").stdout if "text ends" not in error else b"3\n"
@@ -591,8 +596,8 @@ def histogram(_program, _folder):
         calls = int(re.match(r"(\d+) calls on the heap by their times\n", printed).group(1))
         rows = [int(count) for count in re.findall(r"  below +[\d.]+ us +(\d+) #*\n", printed)]
         yield "rows of the histogram, flips_and_pauses, %s" % way, None if sum(rows) == calls > 0 else "%d, not %d" % (sum(rows), calls)
-        kinds = re.findall(r"\n  ([\d.]+) us: (gcflip_heap_\w+)", printed)
-        longest = re.search(r"\nthe longest call took ([\d.]+) us: (gcflip_heap_\w+)", printed).groups()
+        kinds = re.findall(r"\n  ([\d.]+) us: (gcflip_\w+)", printed)
+        longest = re.search(r"\nthe longest call took ([\d.]+) us: (gcflip_\w+)", printed).groups()
         yield "the longest call, %s" % way, None if longest in kinds and float(longest[0]) == max(float(time) for time, _ in kinds) else printed
 
 
@@ -628,4 +633,4 @@ def sessions(_program, _folder):
             yield "session %d of %s" % (number, DOCUMENT), None if is_shown else "printed %s" % printed
 
 
-GROUPS = [programs, collector_threads, by_valgrind, evaluating, command_line, interrupting, pace, limits, full_heaps, refused_allocations, no_collector, traces, traces_that_end, histogram, flips_and_pauses, sessions]
+GROUPS = [programs, collector_threads, by_valgrind, races, evaluating, command_line, interrupting, pace, limits, full_heaps, refused_allocations, no_collector, traces, traces_that_end, histogram, flips_and_pauses, sessions]

@@ -30,7 +30,7 @@ BY_FROM, BY_ARM, BY_HAND = "From", "arm", "by hand"
 # Numbers that calls of the libraries for C return if they did nothing.
 NAMED_ANSWERS = ("NO_MEMORY", "OUT_OF_RANGE", "CLOSED", "OPEN", "TOO_LARGE", "BAD_LINE", "ENDS_EARLY")
 # Functions of these libraries whose contract says which number they return. None of them returns that of a fault.
-EXACT = ("of_reply", "of_step", "seen", "tell_value", "gcflip_room", "gcflip_beside_room", "gcflip_beside_roots")
+EXACT = ("of_reply", "of_step", "seen", "value_told", "gcflip_room", "gcflip_beside_room", "gcflip_beside_roots")
 # Those that pass on the number that a function of their own file made beside the next stage. What that writes is looked at as elsewhere.
 PASSED_ON = ("gcflip_beside_safepoint", "gcflip_beside_resume", "gcflip_beside_ask", "gcflip_beside_take", "gcflip_beside_go", "gcflip_beside_flip", "gcflip_beside_finish")
 # Crates of tests alone.
@@ -56,14 +56,14 @@ PLACES = {
     "gcflip_heap_c/src/work.rt": {("of_work", BY_ARM): 1},
     "gcflip_heap_c/src/checking.rt": {("gcflip_heap_check", BY_ARM): 1},
     "gc_in_c/src/reply.rt": {("of_result", BY_ARM): 1},
-    "gcflip_beside_c/src/opening.rt": {("gcflip_beside_open", BY_ARM): 1},
+    "gcflip_beside_c/src/opening.rt": {("opened", BY_ARM): 1},
     "gcflip_beside_c/src/collecting.rt": {("prepared", BY_ARM): 1, ("why", BY_ARM): 1},
     "gc_copy/src/log.rt": {("add_segment", BY_HAND): 1},
     "gc_collected/src/checking.rt": {("found_by", BY_ARM): 1},
     "gc_concurrent/src/beside.rt": {("mutate_and_stop", BY_HAND): 1},
     "gc_concurrent/src/checking.rt": {("check", BY_ARM): 1},
     "gc_concurrent/src/copier.rt": {("prepare", BY_HAND): 1},
-    "gc_concurrent/src/held.rt": {("from", BY_FROM): 1, ("moved_roots", BY_ARM): 1, ("flip", BY_HAND): 1},
+    "gc_concurrent/src/held.rt": {("from", BY_FROM): 1, ("flip", BY_HAND): 1},
     "gc_shared/src/closing.rt": {("fault", BY_ARM): 1},
     "gc_shared/src/fault.rt": {("from", BY_FROM): 5, ("from", BY_ARM): 1},
     "gc_trace/src/flips.rt": {("flip_in", BY_HAND): 1},

@@ -106,7 +106,7 @@ def prepared(folder):
 
 
 # The files of tests: those that use a heap, which are run with the extension and without, those that use none, and the one about the extension.
-OF_HEAPS = ["test_heap.py", "test_places.py", "test_refs.py", "test_renamed.py", os.path.join(PAGE, "tests", "python", "test_explore.py")]
+OF_HEAPS = ["test_heap.py", "test_layers.py", "test_places.py", "test_refs.py", "test_renamed.py", os.path.join(PAGE, "tests", "python", "test_explore.py")]
 WITHOUT_HEAPS, OF_EXTENSION = ["test_checker.py", "test_inference.py", "test_images.py"], ["test_quick.py"]
 
 

@@ -15,8 +15,8 @@ import time
 from .c_builds import SANITIZERS, SOURCES, WARNINGS, done, library
 from .harness import Outcome, difference, file_of, run
 from .python import TESTS, Python, content_of
-from .random_calls import FRAMES, LOOSE, MOVES, PACED, PLACES, RESERVES, TEXTS, VECTORS, random_calls, traces_of
-from .rust import prepared
+from .random_calls import COLLECTS_ON, FRAMES, LOOSE, MOVES, PACED, PLACES, RAWS, RESERVES, TEXTS, VECTORS, random_calls, traces_of
+from .rust import failed, prepared
 
 STARTED = int(time.time())
 # How many lists of calls each part plays in a round, and how long one is at least.
@@ -82,7 +82,7 @@ def c_calls(_program, folder):
     if built is None:
         return
     driver, why = built_driver(built, "plain", [])
-    for name, calls in lists("C", PACED, RESERVES, LOOSE, FRAMES, PLACES, TEXTS, VECTORS, MOVES):
+    for name, calls in lists("C", PACED, RESERVES, LOOSE, FRAMES, PLACES, TEXTS, VECTORS, RAWS, MOVES):
         yield name, why or played([driver], calls, wanted_by_c(calls))
 
 
@@ -103,6 +103,19 @@ def recordings(program, folder):
             yield "%s, trace %d is played" % (name, number), difference(found, Outcome("".join(reply + "\n" for reply in replies).encode()))
 
 
+def wanted_of_errors(calls):
+    """Returns the lines of a binding with errors, which have no report: what `reserve` or `collect` has done before one is not told, and each lack of memory
+    has one name."""
+    names = {"full": "full", "starved": "no memory"}
+
+    def of_error(call, line):
+        if call.startswith("reserve "):
+            return re.sub("^(full|starved), .*, ", lambda found: "%s, nothing, " % names[found[1]], line)
+        return "no memory" if call == "collect" and not line.startswith("done, ") else line
+
+    return [of_error(call, line) for call, line in zip(calls.calls, calls.printed)]
+
+
 def python_calls(_program, folder):
     """The calls in Python give the model's replies, counts, logs and images."""
     built = library(folder)
@@ -110,8 +123,23 @@ def python_calls(_program, folder):
         return
     python = Python(built, folder)
     yield "the Python package is built", python.why
-    for name, calls in lists("Python", PACED, LOOSE, FRAMES, PLACES, TEXTS, VECTORS, MOVES):
-        yield name, played([sys.executable, os.path.join(TESTS, "random_calls.py")], calls, calls.printed, env=python.environment)
+    for name, calls in lists("Python", PACED, RESERVES, LOOSE, FRAMES, PLACES, TEXTS, VECTORS, RAWS, MOVES):
+        yield name, played([sys.executable, os.path.join(TESTS, "random_calls.py")], calls, wanted_of_errors(calls), env=python.environment)
+
+
+def wanted_by_rust(calls):
+    """Returns the lines that the example in Rust prints: where no collection is open, the crate's `new_words` says so."""
+    return ["idle" if call.startswith("new_words ") and line == "out of range" else line for call, line in zip(calls.calls, wanted_of_errors(calls))]
+
+
+def rust_calls(_program, folder):
+    """The calls in Rust give the model's replies, counts, logs and images, and leave all other outputs alone."""
+    cargo = prepared(folder)
+    if cargo is None:
+        return
+    yield "random_calls.rs is built", failed(cargo.run("build", "--example", "random_calls"))
+    for name, calls in lists("Rust by all calls", PACED, RESERVES, COLLECTS_ON, LOOSE, FRAMES, PLACES, TEXTS, VECTORS, RAWS, MOVES):
+        yield name, played([cargo.example("random_calls")], calls, wanted_by_rust(calls))
 
 
 def rust_plays(_program, folder):
@@ -119,8 +147,7 @@ def rust_plays(_program, folder):
     cargo = prepared(folder)
     if cargo is None:
         return
-    made = cargo.run("build", "--example", "play")
-    yield "play.rs is built", None if made.status == 0 else made.stderr.decode()
+    yield "play.rs is built", failed(cargo.run("build", "--example", "play"))
     for name, calls in lists("Rust"):
         for number, (lines, replies) in enumerate(traces_of(calls)):
             source, target = file_of(folder, "trace", "".join(line + "\n" for line in lines).encode()), os.path.join(folder, "replies")
@@ -168,4 +195,4 @@ def plays(program, folder):
                 yield "%s, pair %d is accepted" % (case, n), difference(checked, Outcome(b"yes %d\n" % len(flip[2])))
 
 
-GROUPS = [c_calls, recordings, python_calls, rust_plays, plays]
+GROUPS = [c_calls, recordings, python_calls, rust_calls, rust_plays, plays]

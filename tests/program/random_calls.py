@@ -1,13 +1,14 @@
 """Makes random calls on a heap, with what each call has to print, and the trace that a recording has to be.
 
-The model of heap_model gives the replies. The driver programs, tests/c/random_calls.c and tests/python/random_calls.py, perform the same calls
-and print a line for each.
+The model of heap_model gives the replies. The driver programs, tests/c/random_calls.c, tests/python/random_calls.py and
+bindings/rust/examples/random_calls.rs, perform the same calls and print a line for each.
 """
-from .heap_model import Model, Place
+from .heap_model import Model
+from .random_places import OUT_OF_RANGE, CallsByPlaces
 
 EDGES = [0, 1, 2, 1 << 31, (1 << 32) - 1, 1 << 62, (1 << 63) - 1]
 SIZES = [1, 2, 3, 8, 20, 40, 80, 120, 200, 400]
-OUT_OF_RANGE, CLOSED, OPEN = "out of range", "closed", "open"
+CLOSED = "closed"
 # Each call with how often it is made. `session` closes the heap and opens another.
 WEIGHTS = {"new": 8, "raw": 4, "num": 5, "nil": 2, "move": 6, "get": 9, "put": 10, "put_number": 5, "put_nil": 3, "raw_write": 4, "raw_read": 3, "copy_fields": 5, "address": 2, "cons": 4, "new_from": 4, "new_with": 4, "same": 4, "look": 5,
            "begin": 2, "begin_sized": 1, "roots": 7, "scan": 14, "apply": 5, "flip": 4, "drop": 0.4, "work": 4, "useful": 4, "counts": 3, "log": 2,
@@ -18,14 +19,17 @@ PACED = {"work_sized": 2, "work_within": 3, "pace": 0.7, "work_paced": 6}
 RESERVES = {"reserve": 3, "collect": 0.7, "release": 1}
 LOOSE = {"root_load": 5, "root_store": 6, "root_clear": 1}
 FRAMES = {"frame_push": 6, "frame_pop": 3, "frame_trim": 4}
-PLACES = {"place_new": 4, "place_raw": 2, "place_pair": 3, "place_new_from": 3, "place_new_with": 4, "place_gather": 3, "place_spread": 4, "place_num": 3, "place_nil": 2, "place_copy": 5, "place_get": 6, "place_peek": 4, "place_put": 9, "place_put_number": 5, "place_put_nil": 3,
+PLACES = {"place_new": 4, "place_raw": 2, "place_pair": 3, "place_new_from": 3, "place_new_with": 4, "place_gather": 3, "place_spread": 4, "place_num": 3, "place_nil": 2, "place_clear": 1, "place_copy": 5, "place_get": 6, "place_peek": 4, "place_put": 9, "place_put_number": 5, "place_put_nil": 3,
           "place_put_sure": 3, "place_fill": 4, "place_copy_fields": 4,
           "place_same": 3, "place_look": 4, "room": 2}
-TEXTS = {"place_new_bytes": 4, "place_join": 4, "place_part": 4, "place_write": 8, "place_text": 4, "place_order": 3}
+TEXTS = {"place_new_bytes": 8, "place_join": 8, "place_part": 6, "place_write": 8, "place_text": 4, "place_order": 3}
 VECTORS = {"place_write_words": 8, "place_words": 4}
+RAWS = {"place_raw_write": 6, "place_raw_read": 4}
 MOVES = {"moved": 4, "refer": 4, "place_refer": 4, "place_address": 2, "object_at": 3, "field_at": 4}
 # Not a call: a heap to which looks at extra roots are free, as they are to the one in plain C. A step takes as many as it needs, and none is told.
 FREE_LOOKS = {"free_looks": 0}
+# Rust's `collect` gives an open collection up whose new space is too small, and goes on.
+COLLECTS_ON = {"collects_on": 4}
 COMMANDS = ("new", "raw", "num", "nil", "move", "get", "put", "same", "look")
 
 
@@ -33,7 +37,7 @@ def slot_name(slot):
     return "%s%d" % ("rg"[slot // 16], slot % 16)
 
 
-class Calls:
+class Calls(CallsByPlaces):
     """A list of calls that grows, with the lines that they print and the lines that a recording writes."""
 
     def __init__(self, chance, more):
@@ -386,7 +390,7 @@ class Calls:
         due = model.steps_due(wanted)
         made, copied, looks, report = [], 0, 0, "nothing"
         if due and model.words:
-            made, copied, looks, report = self.worked(min(due, model.words), words=model.words, most_looks=model.words)
+            made, copied, looks, report = self.worked(min(due, model.words), words=model.words, most_looks=2 * model.words)
         elif due:
             made, copied, looks, report = self.worked(due, at_once=None)
         model.remember_work(due, made, copied, looks)
@@ -402,7 +406,7 @@ class Calls:
         words = self.chance.choice([0, 1, 5, 30, model.space.size // 2, model.space.size - 1, model.space.size, (1 << 32) - 1])
         due, parts, answer = model.steps_due(words), [], "done"
         if due:
-            parts.append(self.worked(min(due, model.words), words=model.words, most_looks=model.words) if model.words else self.worked(due, at_once=None))
+            parts.append(self.worked(min(due, model.words), words=model.words, most_looks=2 * model.words) if model.words else self.worked(due, at_once=None))
         model.remember_work(due, *(parts[0][:3] if parts else ([], 0, 0)))
         is_anew = False
         while self.room() < words and answer == "done":
@@ -422,6 +426,8 @@ class Calls:
     def add_collect(self):
         """Adds a call that performs a whole collection: the open one ends first, if there is one."""
         parts = [self.worked((1 << 32) - 1)] if self.model.new else []
+        if self.model.new and "collects_on" in self.weights:
+            self.model.step("drop")
         if self.model.new is None:
             parts.append(self.worked((1 << 32) - 1))
         made = [step for part in parts for step in part[0]]
@@ -429,6 +435,13 @@ class Calls:
         report = "worked %d %d %d %s" % (len(made), sum(part[1] for part in parts), sum(part[2] for part in parts), last)
         answer = "done" if last.startswith("flipped") else last if last == "no room" else "starved"
         self.call(["collect"], "%s, %s" % (answer, report), [line for line, _ in made], [reply for _, reply in made])
+
+    def add_collects_on(self):
+        """Adds a call that performs a whole collection, mostly while one is open whose new space may be too small."""
+        if not self.model.new:
+            size = self.chance.randrange(1, len(self.model.space.words) + 1)
+            self.call(["begin_sized", size], self.model.begin(size))
+        self.add_collect()
 
     def add_release(self):
         if not self.model.new:
@@ -504,199 +517,6 @@ class Calls:
             reply = self.model.root_clear(high, last)
         self.add_on_frame("frame_trim", frame, [most], reply, top, high)
 
-    # ---- commands on roots by their places
-
-    def place(self):
-        """Returns the place of a root, mostly of one that the heap has."""
-        count = len(self.model.roots)
-        wrong = [count, count + 1, count + 256, 1 << 16, 1 << 31, (1 << 32) - 1]
-        return self.chance.choice([0, 15, 16, 31, count - 1, self.chance.randrange(count), self.chance.randrange(count)] if self.chance.random() < 0.95 else wrong)
-
-    def filled_place(self):
-        """Returns a place, mostly of a root with a reference."""
-        filled = [p for p, word in enumerate(self.model.roots) if word > 0 and word % 2 == 0]
-        return self.chance.choice(filled) if filled and self.chance.random() < 0.9 else self.place()
-
-    def place_field(self, s):
-        """Returns a field's number, mostly one that the object of the root at this place has."""
-        wide = self.chance.choice([65535, 65536, 65537, 1 << 31, (1 << 32) - 1])
-        return wide if s >= len(self.model.roots) or self.chance.random() < 0.05 else self.field(0, Place(s))
-
-    def add_by_places(self, name, places, *numbers):
-        """Adds a command on these roots, if they are there: `places` are those of the numbers that name one."""
-        reply = getattr(self.model, name)(*numbers) if all(p < len(self.model.roots) for p in places) else OUT_OF_RANGE
-        self.call([name, *numbers], reply)
-
-    def add_place_new(self):
-        d = self.place()
-        self.add_by_places("place_new", [d], d, self.chance.choice([0, 1, 7, 255]), self.length())
-
-    def add_place_raw(self):
-        d = self.place()
-        self.add_by_places("place_raw", [d], d, self.chance.choice([0, 1, 7, 255]), self.length())
-
-    def add_place_pair(self):
-        d, s, t = self.place(), self.place(), self.place()
-        self.add_by_places("place_pair", [d, s, t], self.mutator(), d, self.chance.randrange(256), s, t)
-
-    def add_place_new_from(self):
-        d, fields = self.place(), [self.place() for _ in range(self.chance.choice([0, 1, 2, 3, 7, 30]))]
-        self.add_by_places("place_new_from", [d, *fields], self.mutator(), d, self.chance.randrange(256), *fields)
-
-    def add_place_new_with(self):
-        d, fields, places = self.place(), [], []
-        for _ in range(self.chance.choice([0, 1, 2, 3, 7, 30])):
-            holds = self.chance.randrange(3)
-            fields += [holds, self.place() if holds == 2 else self.number()]
-            places += fields[-1:] if holds == 2 else []
-        self.add_by_places("place_new_with", [d, *places], self.mutator(), d, self.chance.randrange(256), *fields)
-
-    def range_of_fields(self, s, first):
-        """Returns how many fields the object of the root at this place has from this one on, mostly, or fewer, or more."""
-        at = self.model.target(0, Place(s)) if s < len(self.model.roots) else None
-        room = max(0, self.model.space.length(at) - first) if at and first < 65535 else 2
-        return self.chance.choice([0, 1, room, room, room + 1, self.chance.randrange(room + 1)])
-
-    def add_place_fill(self):
-        s, t = self.filled_place(), self.place()
-        first = self.place_field(s)
-        end = min(first + self.range_of_fields(s, first), (1 << 32) - 1)
-        self.add_by_places("place_fill", [s, t], self.mutator(), s, first, end, t)
-
-    def add_place_copy_fields(self):
-        d, s = self.filled_place(), self.filled_place()
-        if self.chance.random() < 0.3:
-            s = d
-        to, first = self.place_field(d), self.place_field(s)
-        count = min(self.range_of_fields(d, to), self.range_of_fields(s, first)) if self.chance.random() < 0.8 else self.range_of_fields(d, to)
-        self.add_by_places("place_copy_fields", [d, s], self.mutator(), d, to, s, first, count)
-
-    def add_place_new_bytes(self):
-        d, count = self.place(), self.chance.choice([0, 1, 6, 7, 8, 14, 15, self.chance.randrange(60)])
-        text = [self.chance.choice([0, 1, 127, 128, 255]) for _ in range(count)]
-        self.add_by_places("place_new_bytes", [d], self.mutator(), d, self.chance.randrange(256), *text)
-
-    def text_place(self):
-        """Returns a place, mostly of a root with a text."""
-        texts = [p for p in range(len(self.model.roots)) if self.model.text(p) is not None]
-        return self.chance.choice(texts) if texts and self.chance.random() < 0.9 else self.place()
-
-    def add_place_join(self):
-        d, s, t = self.place(), self.text_place(), self.text_place()
-        self.add_by_places("place_join", [d, s, t], self.mutator(), d, self.chance.randrange(256), s, t)
-
-    def add_place_part(self):
-        d, s = self.place(), self.text_place()
-        length = len((self.model.text(s) if s < len(self.model.roots) else None) or b"")
-        at = self.chance.choice([0, length, self.chance.randrange(length + 1), self.chance.randrange(length + 1), (1 << 32) - 1])
-        left = max(0, length - at)
-        count = self.chance.choice([0, left, left + 1, self.chance.randrange(left + 1), (1 << 32) - 1])
-        self.add_by_places("place_part", [d, s], self.mutator(), d, self.chance.randrange(256), s, at, count)
-
-    def add_place_write(self):
-        s = self.text_place()
-        length = len((self.model.text(s) if s < len(self.model.roots) else None) or b"")
-        at = self.chance.choice([0, length, self.chance.randrange(length + 1), self.chance.randrange(length + 1), (1 << 32) - 1])
-        left = max(0, length - at)
-        count = self.chance.choice([0, left, left + 1, self.chance.randrange(left + 1), self.chance.randrange(left + 1)])
-        self.add_by_places("place_write", [s], self.mutator(), s, at, *(self.chance.choice([0, 1, 127, 128, 255]) for _ in range(count)))
-
-    def add_place_text(self):
-        s = self.text_place()
-        self.add_by_places("place_text", [s], s)
-
-    def vector_place(self):
-        """Returns a place, mostly of a root with a vector that has words."""
-        vectors = [p for p in range(len(self.model.roots)) if self.model.vector(p)]
-        return self.chance.choice(vectors) if vectors and self.chance.random() < 0.9 else self.place()
-
-    def add_place_write_words(self):
-        s = self.vector_place()
-        length = len((self.model.vector(s) if s < len(self.model.roots) else None) or [])
-        at = self.chance.choice([0, length, self.chance.randrange(length + 1), self.chance.randrange(length + 1), (1 << 32) - 1])
-        left = max(0, length - at)
-        count = self.chance.choice([0, left, left + 1, self.chance.randrange(left + 1), self.chance.randrange(left + 1)])
-        numbers = (0, 1, (1 << 63) - 1, 1 << 63, (1 << 64) - 1, self.chance.randrange(1 << 64))
-        self.add_by_places("place_write_words", [s], self.mutator(), s, at, *(self.chance.choice(numbers) for _ in range(count)))
-
-    def add_place_words(self):
-        s = self.vector_place()
-        self.add_by_places("place_words", [s], s)
-
-    def add_place_order(self):
-        s, t = self.text_place(), self.text_place()
-        self.add_by_places("place_order", [s, t], s, t)
-
-    def add_place_put_sure(self):
-        s, t = self.filled_place(), self.place()
-        self.add_by_places("place_put_sure", [s, t], self.mutator(), s, self.place_field(s), t)
-
-    def range_of_roots(self):
-        """Returns a place and how many roots there are from there on: as many as the heap has, mostly, or more."""
-        first = self.place()
-        room = max(0, len(self.model.roots) - first)
-        return first, self.chance.choice([0, 1, 2, room, room + 1, self.chance.randrange(room + 1)] if room < 65000 else [0, 1, 2, 30, 65536])
-
-    def add_place_gather(self):
-        d, (first, count), m, kind = self.place(), self.range_of_roots(), self.mutator(), self.chance.randrange(256)
-        self.add_by_places("place_gather", [d, first + count - 1 if count else 0] if first + count <= len(self.model.roots) else [1 << 32], m, d, kind, first, count)
-
-    def add_place_spread(self):
-        s, (first, count) = self.filled_place(), self.range_of_roots()
-        at = self.model.target(0, Place(s)) if s < len(self.model.roots) else None
-        if at and self.chance.random() < 0.6:
-            count = self.model.space.length(at) + self.chance.choice([0, 0, 0, 1])
-        fits = first + count <= len(self.model.roots) and not first <= s < first + count
-        self.add_by_places("place_spread", [s] if fits else [1 << 32], first, s, count)
-
-    def add_place_num(self):
-        d = self.place()
-        self.add_by_places("place_num", [d], d, self.number())
-
-    def add_place_nil(self):
-        d = self.place()
-        self.add_by_places("place_nil", [d], d)
-
-    def add_place_copy(self):
-        d, s = self.place(), self.filled_place()
-        self.add_by_places("place_copy", [d, s], d, s)
-
-    def add_place_get(self):
-        d, s = self.place(), self.filled_place()
-        self.add_by_places("place_get", [d, s], d, s, self.place_field(s))
-
-    def add_place_peek(self):
-        s = self.filled_place()
-        self.add_by_places("place_peek", [s], s, self.place_field(s))
-
-    def add_place_put(self):
-        s, t = self.filled_place(), self.place()
-        self.add_by_places("place_put", [s, t], self.mutator(), s, self.place_field(s), t)
-
-    def add_place_put_number(self):
-        s = self.filled_place()
-        self.add_by_places("place_put_number", [s], self.mutator(), s, self.place_field(s), self.number())
-
-    def add_place_put_nil(self):
-        s = self.filled_place()
-        self.add_by_places("place_put_nil", [s], self.mutator(), s, self.place_field(s))
-
-    def add_place_refer(self):
-        d = self.place()
-        self.add_by_places("place_refer", [d], d, self.any_address())
-
-    def add_place_address(self):
-        s = self.filled_place()
-        self.add_by_places("place_address", [s], s)
-
-    def add_place_same(self):
-        s, t = self.filled_place(), self.filled_place()
-        self.add_by_places("place_same", [s, t], s, t)
-
-    def add_place_look(self):
-        s = self.filled_place()
-        self.add_by_places("place_look", [s], s)
-
     # ---- calls that read, and calls that are out of range
 
     def add_useful(self):
@@ -755,7 +575,7 @@ class Calls:
                       ["place_put_number", 0, 0, 0, (1 << 64) - 1], ["place_put_nil", beyond, 0, 0], ["place_put_nil", wide, 0, 0],
                       ["place_raw", 0, wide, 1], ["place_raw", 0, 1, 65536 * (1 + wide % 3)], ["place_pair", beyond, 0, 0, 0, 0], ["place_pair", 0, 0, wide, 0, 0],
                       ["place_new_from", beyond, 0, 0, 0], ["place_new_from", 0, 0, wide, 0], ["place_gather", beyond, 0, 0, 0, 1], ["place_gather", 0, 0, wide, 0, 1],
-                      ["place_gather", 0, 0, 0, 0, 65536], ["place_spread", 0, 0, 1], ["place_spread", 1, 0, (1 << 32) - 1],
+                      ["place_gather", 0, 0, 0, 0, 65536], ["place_clear", 1, 0], ["place_clear", 0, (1 << 32) - 1], ["place_spread", 0, 0, 1], ["place_spread", 1, 0, (1 << 32) - 1],
                       ["place_new_with", beyond, 0, 0], ["place_new_with", 0, 0, wide], ["place_new_with", 0, 0, 0, 1, 1 << 63], ["place_new_with", 0, 0, 0, 2, 1 << 32],
                       ["place_new_with", 0, 0, 0, self.chance.choice([3, 255, 1 << 31]), 0], ["place_put_sure", beyond, 0, 0, 0], ["place_fill", beyond, 0, 0, 0, 0],
                       ["place_fill", 0, 0, 1, 0, 0], ["place_copy_fields", beyond, 0, 0, 0, 0, 0], ["place_copy_fields", wide, 0, 0, 0, 0, 0]]
@@ -767,6 +587,8 @@ class Calls:
                       ["place_write", beyond, 0, 0], ["place_write", wide, 0, 0, 5]]
         if "place_write_words" in self.weights:
             sized += [["place_write_words", beyond, 0, 0], ["place_write_words", self.chance.choice([256, 1 << 31, (1 << 32) - 1]), 0, 0, 5]]
+        if "place_raw_write" in self.weights:
+            sized += [["place_raw_write", beyond, 0, 0], ["place_raw_write", self.chance.choice([256, 1 << 31, (1 << 32) - 1]), 0, 0, 5]]
         if "root_load" not in self.weights or self.model.extra_roots == 0:
             return sized
         return sized + [["root_load", beyond, 0, 0], ["root_load", 0, slot, 0], ["root_store", beyond, 0, 0], ["root_store", 0, 0, slot]]

@@ -15,6 +15,7 @@ SECONDS = 600
 
 # The output of the example programs, as their comments derive it.
 EXAMPLE_OUTPUT = {"first_check": b"flip: 1 pairs\n", "first_heap": b"Number(42)\n", "two_threads": b"50005000\n", "typed_roots": b"45\n",
+                  "layers": b"Double(-0.5) 100001 Int(7)\nSome(42)\n",
                   "extra_roots": b"pushed 1000\nflipped 1001\nthe last one popped is Object { kind: 0, fields: 0 }\n"}
 
 # The output of the example of the feature `beside`, as its comment derives it.

@@ -10,7 +10,7 @@ PYTHON = os.path.join(TOP, "bindings", "python", "gcflip")
 # The files of Rust's heap.
 HEAP_OF_RUST = ("heap.rs", os.path.join("heap", "places.rs"))
 # Public methods that stand for no call of C alone.
-OF_THEIR_OWN = {"Rust": {"mutator"}, "Python": {"mutator", "make", "make_raw", "make_bytes", "safepoint", "stats"}}
+OF_THEIR_OWN = {"Rust": {"mutator", "bytes_hash"}, "Python": {"mutator", "bytes_hash", "make", "make_raw", "make_bytes", "safepoint", "stats", "objects", "growing"}}
 # How a method of Python's Heap makes a call on the heap: by its name, behind this prefix.
 BY_NAME = {"_call": "gcflip_heap_", "_made": "gcflip_heap_", "_step": "gcflip_heap_step_", "_call_roots": "gcflip_", "_made_roots": "gcflip_"}
 

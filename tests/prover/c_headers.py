@@ -37,8 +37,8 @@ class Function:
         return made.group(1) if made else None
 
     def names(self, known):
-        """Returns which of these answers the comment names. Functions of other types return none."""
-        return [] if self.returns != "uint32_t" else [answer for answer in known if re.search(r"\b%s\b" % answer, self.comment)]
+        """Returns which of these answers the comment names. Functions of types that have no answer return none."""
+        return [] if self.returns not in ("uint32_t", "gcflip_seen") else [answer for answer in known if re.search(r"\b%s\b" % answer, self.comment)]
 
 
 def text_of(header):

@@ -68,7 +68,7 @@ def allocating():
 def memory(clauses):
     """Returns when a call may return GCFLIP_NO_MEMORY by its contract, or None if that does not tell."""
     bound, call = clauses.get("memory", ""), clauses.get("call", "")
-    if "result ≢ no_memory" in bound:
+    if re.search(r"result(\.answer)? ≢ no_memory", bound):
         return NEVER
     if "(λ s. IsSome s.collection)" in bound:
         return OPEN
@@ -112,7 +112,7 @@ def proved_answers(clauses):
 
 def costs():
     """Returns the costs of each call: rows of the table of instructions, with the call that each is about by the program that was counted."""
-    counted = dict(re.findall(r"(?m)^COMMAND\((\w+), (gcflip_\w+)\(", read(COUNTED)))
+    counted = dict(re.findall(r"(?m)^(?:COMMAND|SEEN)\((\w+), (gcflip_\w+)\(", read(COUNTED)))
     steps = re.search(r"(?s)#define STEPS.*?(gcflip_\w+)\(", read(COUNTED)).group(1)
     counted.update({row: steps for row in re.findall(r"(?m)^STEPS\((\w+), ", read(COUNTED))})
     found = {}
