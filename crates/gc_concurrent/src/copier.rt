@@ -437,8 +437,8 @@ impl Copier {
         ensures row { (self.new.seat.table_id ≡ self.old.seat.table_id) × (self.new.size ≡ self.old.size) }
     {
         self.former = None;
-        let space = NextSpace::new(alloc, size)?;
         let spare = Spare::new(alloc, size)?;
+        let space = NextSpace::new(alloc, size)?;
         let reserved = self.standing.reserve(max(size, self.size));
         if reserved.is_err() {
             return Err(NoMemory);
