@@ -7,9 +7,8 @@ use Rattle.std.proofs.lemmas.Bool.{cond_both, cases_lt, cases_eq, ltb-true}
 use Rattle.gc_graph.specs.Slots.{SlotName, place, roots_of}
 use Rattle.gc_graph.specs.Graph.{Value, Nil, Num, Ref, Graph, root}
 use Rattle.gc_graph.specs.Machine.{Roomy}
-use Rattle.gc_heap.specs.ExtraRoots.{extra_slot}
+use Rattle.gc_heap.specs.ExtraRoots.{extra_root}
 use Rattle.gc_heap.specs.declared.options.HeapOptions.{HeapOptions}
-use Rattle.gc_heap.proofs.Public.{extra_place}
 use Rattle.gc_collected.specs.ExtraRoots.{clear_step}
 use Rattle.std.proofs.lemmas.List.{length-map, length-replicate}
 use Rattle.gc_words.specs.Word.{value_of}
@@ -265,17 +264,14 @@ put_knows known s new m i d t reply steps k = subst (KnowsRoots known) (ap (λ (
 
 -- the command that makes extra root i nil
 abbrev pub Clears : State → ℕ → State
-Clears s i = (mutate s 0 (ops.Nil (extra_slot s.mutators 0 i))).1
-
-written_at : (s : State) (i : ℕ) → root_written 0 (ops.Nil (extra_slot s.mutators 0 i)) ≡ Some (roots_of s.mutators + i)
-written_at s i = ap Some (extra_place s.mutators 0 i (omega arith))
+Clears s i = (mutate s 0 (ops.Nil (extra_root s.mutators i))).1
 
 nil_made : (s : State) (i : ℕ) → root (Clears s i).heap.graph (roots_of s.mutators + i) ≡ Nil
-nil_made s i = grind (arith, common_steps, cond_both, ltb-true, extra_place, set_nil)
+nil_made s i = grind (arith, common_steps, cond_both, ltb-true, set_nil)
 
 pub clears_knows : (known now : KnownRoots) (s : State) (i : ℕ) → HasWritten known now i → now.twins.used ≡ known.twins.used → KnowsRoots known s → KnowsRoots now (Clears s i)
 clears_knows known now s i written used k =
-    stored_command known now s 0 i (ops.Nil (extra_slot s.mutators 0 i)) (written_at s i) written (omega (arith, used)) (omega (arith, used, k.keeps.used_high)) (λ le. nil_made s i) k
+    stored_command known now s 0 i (ops.Nil (extra_root s.mutators i)) refl written (omega (arith, used)) (omega (arith, used, k.keeps.used_high)) (λ le. nil_made s i) k
 
 -- one more root
 pub clear_next : (s : State) (i j n count : ℕ) → count ≡ suc n → j ≡ suc i → clear_step s i count ≡ clear_step (Clears s i) j n

@@ -4,7 +4,7 @@ use Rattle.std.specs.Prelude.{IfSome}
 use Rattle.gc_graph.specs.Graph.{Value}
 use Rattle.gc_graph.specs.declared.command.Op.TheVariants.{Nil}
 use Rattle.gc_graph.specs.declared.reply.Reply.{Reply}
-use Rattle.gc_heap.specs.ExtraRoots.{extra_slot}
+use Rattle.gc_heap.specs.ExtraRoots.{extra_root}
 use Rattle.gc_model.specs.State.{State}
 use Rattle.gc_model.specs.Steps.{mutate}
 use Rattle.gc_model.specs.Belonging.{IsOpened}
@@ -25,7 +25,7 @@ Never a i = ⊥
 clear_ran : (n : ℕ) (s : State) (k : ℕ) → Ran s (clear_step s k n) Never
 clear_ran zero s k = ran_none s Never
 clear_ran (suc n) s k =
-    let op = Nil (extra_slot s.mutators 0 k) in
+    let op = Nil (extra_root s.mutators k) in
     let one : Reply × State = mutate s 0 op in
     ran_on s one.1 (clear_step one.1 (suc k) n) (WrittenBy s.heap.graph 0 op one.0) Never Never (λ a i w. w) (λ a i w. w) (ran_one s one.1 0 op one.0 refl refl) (clear_ran n one.1 (suc k))
 

@@ -4,7 +4,7 @@ ghost use Rattle.std.specs.Prelude.{◌≡◌, ◌<◌, ◌≤◌, ◌-◌, ℕ,
 ghost use Rattle.std.specs.Option.{option_map};
 ghost use Rattle.gc_graph.specs.declared.command.Op.{Op};
 ghost use Rattle.gc_graph.specs.declared.reply.Reply.{Reply};
-ghost use Rattle.gc_heap.specs.ExtraRoots.{extra_slot};
+ghost use Rattle.gc_heap.specs.ExtraRoots.{extra_root};
 ghost use Rattle.gc_heap.specs.Heap.{extra_roots_in};
 ghost use Rattle.gc_model.specs.State.{extra_roots_of};
 ghost use Rattle.gc_model.specs.Steps.{mutate};
@@ -32,7 +32,7 @@ impl CollectedHeap {
     pub fn load(&mut self, m: u8, d: Slot, k: u32) -> Reply
         requires mutator { m < self.old.core.mutators }
         requires root { k < extra_roots_of self.old.core }
-        ensures step { mutate self.old.core m (Op.Move d (extra_slot self.old.core.mutators m k)) ≡ (result, self.new.core) }
+        ensures step { mutate self.old.core m (Op.Move d (extra_root self.old.core.mutators k)) ≡ (result, self.new.core) }
         ensures mutators { self.new.core.mutators ≡ self.old.core.mutators }
         ensures beside { self.new.beside ≡ self.old.beside }
         ensures looks { self.new.roots_left ≡ self.old.roots_left }
@@ -49,7 +49,7 @@ impl CollectedHeap {
     pub fn store(&mut self, m: u8, k: u32, s: Slot) -> Reply
         requires mutator { m < self.old.core.mutators }
         requires root { k < extra_roots_of self.old.core }
-        ensures step { mutate self.old.core m (Op.Move (extra_slot self.old.core.mutators m k) s) ≡ (result, self.new.core) }
+        ensures step { mutate self.old.core m (Op.Move (extra_root self.old.core.mutators k) s) ≡ (result, self.new.core) }
         ensures mutators { self.new.core.mutators ≡ self.old.core.mutators }
         ensures beside { self.new.beside ≡ self.old.beside }
         ensures looks { AsksForLook k self.old.roots_left self.new.roots_left }

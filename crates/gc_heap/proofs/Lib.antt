@@ -1,6 +1,5 @@
--- Lemmas about a heap's commands on words: what each leaves and replies, extra roots, objects to be filled, numbers and links.
+-- Lemmas about a heap's commands on words: what each leaves and replies, objects to be filled, numbers and links.
 pub mod Commands
-pub mod ExtraRoots
 pub mod Filling
 pub mod Links
 pub mod Numbers

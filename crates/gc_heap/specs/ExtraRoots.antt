@@ -1,18 +1,19 @@
 -- Extra roots: root words that follow those of all slots in the list of roots.
-use Rattle.std.specs.Prelude.{ℕ, ◌+◌, ◌-◌, ◌*◌, ◌≤◌, [], replicate}
-use Rattle.gc_graph.specs.Limits.{most_mutators, slots_each}
-use Rattle.gc_graph.specs.Slots.{SlotName, own_slot, roots_of}
+use Rattle.std.specs.Prelude.{ℕ, ◌+◌, ◌-◌, ◌≤◌, [], replicate}
+use Rattle.gc_graph.specs.Limits.{most_mutators}
+use Rattle.gc_graph.specs.Slots.{SlotName, roots_of}
 use Rattle.gc_graph.specs.Graph.{Nil}
 use Rattle.gc_graph.specs.Machine.{Roomy}
+use Rattle.gc_heap.specs.Places.{root_at}
 use Rattle.gc_heap.specs.declared.options.HeapOptions.{HeapOptions}
 
 -- the maximum number of extra roots of a heap
 abbrev pub most_extra_roots : ℕ
 most_extra_roots = 1048576
 
--- Mutator m's name for extra root k of a heap with this many mutators. Its place is `roots_of mutators + k`, whatever m is.
-abbrev pub extra_slot : ℕ → ℕ → ℕ → SlotName
-extra_slot mutators m k = own_slot (slots_each * (mutators - m) + k)
+-- the name of extra root k of a heap with this many mutators, for each of them: the slots come first
+abbrev pub extra_root : ℕ → ℕ → SlotName
+extra_root mutators k = root_at (roots_of mutators + k)
 
 -- a heap can be opened with these options
 pub record CanOpen (options : HeapOptions) : Type 0 where

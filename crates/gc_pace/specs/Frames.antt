@@ -3,7 +3,7 @@ use Rattle.std.specs.Prelude.{ℕ, suc, ◌-◌, ◌≤◌, nat_le, max, if◌th
 use Rattle.gc_graph.specs.Slots.{SlotName}
 use Rattle.gc_graph.specs.declared.command.Op.TheVariants.{Move}
 use Rattle.gc_graph.specs.declared.reply.Reply.{Reply}
-use Rattle.gc_heap.specs.ExtraRoots.{extra_slot}
+use Rattle.gc_heap.specs.ExtraRoots.{extra_root}
 use Rattle.gc_model.specs.State.{State, extra_roots_of}
 use Rattle.gc_model.specs.Steps.{mutate}
 use Rattle.gc_collected.specs.ExtraRoots.{clear_step}
@@ -11,11 +11,11 @@ use Rattle.gc_pace.specs.declared.frame.Frame.{Frame}
 
 -- mutator m's slot takes the value of extra root k
 abbrev pub load_step : State → ℕ → SlotName → ℕ → Reply × State
-load_step s m slot k = mutate s m (Move slot (extra_slot s.mutators m k))
+load_step s m slot k = mutate s m (Move slot (extra_root s.mutators k))
 
 -- extra root k takes the value of mutator m's slot
 abbrev pub store_step : State → ℕ → ℕ → SlotName → Reply × State
-store_step s m k slot = mutate s m (Move (extra_slot s.mutators m k) slot)
+store_step s m k slot = mutate s m (Move (extra_root s.mutators k) slot)
 
 -- mutator m's slot takes the value of extra root k, which then becomes nil
 abbrev pub pop_step : State → ℕ → SlotName → ℕ → Reply × State

@@ -7,7 +7,7 @@ ghost use Rattle.gc_graph.specs.Slots.{roots_of, place};
 ghost use Rattle.gc_graph.specs.declared.command.Op.{Op};
 ghost use Rattle.gc_words.specs.Image.{is_start};
 ghost use Rattle.gc_words.specs.Space.{end_of};
-ghost use Rattle.gc_heap.specs.ExtraRoots.{extra_slot};
+ghost use Rattle.gc_heap.specs.ExtraRoots.{extra_root};
 ghost use Rattle.gc_heap.specs.Filling.{TakesFields};
 ghost use Rattle.gc_heap.specs.Heap.{IsHeap, graph_in, extra_roots_in};
 ghost use Rattle.gc_heap.specs.Commands.{Performs, Fetches};
@@ -84,7 +84,7 @@ impl Heap {
     pub fn load(&mut self, m: u8, d: Slot, k: u32) -> Reply
         requires mutator { m < self.old.mutators }
         requires root { k < extra_roots_in self.old }
-        ensures performs { Performs self.old m (Op.Move d (extra_slot self.old.mutators m k)) result self.new }
+        ensures performs { Performs self.old m (Op.Move d (extra_root self.old.mutators k)) result self.new }
         ensures sound { IsHeap self.new }
     {
         // Here the prover learns how many roots there are.
@@ -97,7 +97,7 @@ impl Heap {
     pub fn store(&mut self, m: u8, k: u32, s: Slot) -> Reply
         requires mutator { m < self.old.mutators }
         requires root { k < extra_roots_in self.old }
-        ensures performs { Performs self.old m (Op.Move (extra_slot self.old.mutators m k) s) result self.new }
+        ensures performs { Performs self.old m (Op.Move (extra_root self.old.mutators k) s) result self.new }
         ensures sound { IsHeap self.new }
     {
         // Here the prover learns how many roots there are.
@@ -109,7 +109,7 @@ impl Heap {
     /// Sets extra root `k` to nil: `Done`.
     pub fn clear(&mut self, k: u32) -> Reply
         requires { k < extra_roots_in self.old }
-        ensures performs { Performs self.old 0 (Op.Nil (extra_slot self.old.mutators 0 k)) result self.new }
+        ensures performs { Performs self.old 0 (Op.Nil (extra_root self.old.mutators k)) result self.new }
         ensures sound { IsHeap self.new }
     {
         // Here the prover learns how many roots there are.

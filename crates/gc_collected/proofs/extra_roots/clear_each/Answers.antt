@@ -5,7 +5,7 @@ use Rattle.std.proofs.lemmas.List.{length-map}
 use Rattle.gc_graph.specs.declared.command.Op.TheVariants.{Nil}
 use Rattle.gc_graph.specs.declared.reply.Reply.{Reply}
 use Rattle.gc_words.specs.Word.{value_of}
-use Rattle.gc_heap.specs.ExtraRoots.{extra_slot}
+use Rattle.gc_heap.specs.ExtraRoots.{extra_root}
 use Rattle.gc_model.specs.State.{State}
 use Rattle.gc_copy.specs.Words.{collection_in, state_of}
 use Rattle.gc_model.proofs.Public.{roots_counted}
@@ -20,7 +20,7 @@ loop-k-preserved c =
     let heap = c.loop-k.heap in
     let new = c.clear-done.new.self in
     let o = c.args.collection.now in
-    let op = Nil (extra_slot heap.mutators 0 c.loop-k.k) in
+    let op = Nil (extra_root heap.mutators c.loop-k.k) in
     let before : State = state_of heap (option_map collection_in o) in
     let step = performed heap new o 0 op c.clear-done.result c.space.ensures.sound (λ none. none) c.clear-done.ensures.performs c.loop-k.invariant.belongs in
     let rest = c.args.to - (c.loop-k.k + 1) in
