@@ -88,10 +88,10 @@ def example(_program, folder):
     made = done(["gcc", "-std=c99", "-O2", "-pthread", *WARNINGS, "-I" + os.path.join(built.prefix, "include"), "-o", path, os.path.join(TOP, "examples", "beside", "main.c"), *built.archive()])
     yield "examples/beside is built", None if made.status == 0 else made.stderr.decode()
     ran = done([path, "2000"])
-    yield "examples/beside", None if ran.status == 0 and EXAMPLE_LINES.fullmatch(ran.stdout) else "status %d: %s%s" % (ran.status, ran.stdout.decode(), ran.stderr.decode())
+    yield "examples/beside", None if ran.status == 0 and EXAMPLE_LINES.fullmatch(ran.stdout) else "status %s: %s%s" % (ran.status, ran.stdout.decode(), ran.stderr.decode())
     if has_valgrind("examples/beside"):
         raced = done([*helgrind(folder), path, "3000"])
-        yield "examples/beside by helgrind", None if raced.status == 0 else "status %d: %s" % (raced.status, raced.stderr.decode()[-2000:])
+        yield "examples/beside by helgrind", None if raced.status == 0 else "status %s: %s" % (raced.status, raced.stderr.decode()[-2000:])
 
 
 GROUPS = [programs, sanitized, symbols, example]

@@ -15,13 +15,13 @@ SOURCES = os.path.join(TOP, "tests", "c")
 EXAMPLE_PROGRAMS = os.path.join(TOP, "bindings", "c", "examples")
 # The allocator among the examples, and the program that is linked with it.
 HUGE_PAGES, HUGE_HEAP = os.path.join(EXAMPLE_PROGRAMS, "huge_pages.c"), "huge_heap.c"
-SECONDS = 120
+SECONDS = 600
 # Libraries that have changed are proved first.
 PROVING_SECONDS = 3600
 WARNINGS = ["-Wall", "-Wextra", "-Wpedantic", "-Werror"]
 SANITIZERS = ["-g", "-fsanitize=address,undefined", "-fno-sanitize-recover=all"]
-# Runs a program, and ends it with status 99 if it reads what was never written, or loses a block.
-VALGRIND = ["valgrind", "-q", "--error-exitcode=99", "--leak-check=full"]
+# Runs a program, and ends it with status 99 if it reads what was never written, or loses a block. Its threads take turns.
+VALGRIND = ["valgrind", "-q", "--error-exitcode=99", "--leak-check=full", "--fair-sched=try"]
 THREAD_SANITIZER = ["-fsanitize=thread", "-g"]
 # ThreadSanitizer sees a call of memcpy in the archive, and not the archive's atomic steps by which the mutator was handed over before.
 HANDED_OVER = b"race:^gcflip_beside_\n"
@@ -30,8 +30,11 @@ TIMED_WAITS = b"{\n   timed_waits\n   Helgrind:Misc\n   ...\n   fun:__pthread_co
 
 
 def done(words, timeout=SECONDS, **more):
-    """Runs a command, and returns its outcome."""
-    ran = subprocess.run(words, stdout=subprocess.PIPE, stderr=subprocess.PIPE, timeout=timeout, **more)
+    """Runs a command, and returns its outcome. Ends it after `timeout` seconds; the outcome's status then says so."""
+    try:
+        ran = subprocess.run(words, stdout=subprocess.PIPE, stderr=subprocess.PIPE, timeout=timeout, **more)
+    except subprocess.TimeoutExpired as late:
+        return Outcome(late.stdout or b"", late.stderr or b"", "no end after %d seconds" % timeout)
     return Outcome(ran.stdout, ran.stderr, ran.returncode)
 
 
@@ -164,6 +167,6 @@ def instructions(path, arguments, folder, *options):
     counted = os.path.join(folder, "counted")
     found = done(["valgrind", "--tool=callgrind", "--callgrind-out-file=" + counted, *options, path, *[str(word) for word in arguments]])
     if found.status != 0:
-        return 0, "status %d: %s" % (found.status, found.stderr.decode("utf-8", "replace"))
+        return 0, "status %s: %s" % (found.status, found.stderr.decode("utf-8", "replace"))
     with open(counted, encoding="utf-8") as file:
         return int(re.search(r"(?m)^(?:summary|totals): (\d+)", file.read()).group(1)), None

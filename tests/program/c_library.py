@@ -89,7 +89,7 @@ def crash_in_a_self_test(_program, folder):
     found = done([path, "sums"]) if why is None else Outcome()
     lines = found.stdout.decode().splitlines()
     crashed = found.status == -signal.SIGSEGV and len(lines) == BITS_UP_TO_THE_CRASH and lines[-1].startswith("bit 0 of the word at 0x")
-    yield "the bit of a crash", why or (None if crashed else "status %d, last of %d lines: %s" % (found.status, len(lines), lines[-1:]))
+    yield "the bit of a crash", why or (None if crashed else "status %s, last of %d lines: %s" % (found.status, len(lines), lines[-1:]))
 
 
 def objects():
@@ -393,7 +393,7 @@ def image_threads(_program, folder):
         races = ["valgrind", "-q", "--tool=helgrind", "--error-exitcode=99", path]
         yield "image_threads.c by helgrind", why or difference(done(races), Outcome())
         status = done([*races, "shared"]).status
-        yield "threads with one collection, by helgrind", None if status == 99 else "status %d, wanted 99" % status
+        yield "threads with one collection, by helgrind", None if status == 99 else "status %s, wanted 99" % status
 
 
 def huge_pages(_program, folder):

@@ -132,7 +132,7 @@ def cases(program, folder, name, path):
     yield "times of 6 objects, %s" % name, None if timed and timed.group(1) == b"6" else "not printed"
     for words in [[], ["0"], ["100001"], ["-b", "other", "5"], ["-x", "5"], ["-p", folder, "5"]]:
         status = done([path, *words]).status
-        yield "status of %s, %s" % (words, name), None if status == 2 else "status %d, wanted 2" % status
+        yield "status of %s, %s" % (words, name), None if status == 2 else "status %s, wanted 2" % status
 
 
 # The number of roots, the root that is wrong or that number, the roots that the new image lacks, the verdict of the call (its refusal, its

@@ -36,7 +36,7 @@ def counted(path, folder):
     counts = os.path.join(folder, "counts")
     ran = done(["valgrind", "--tool=callgrind", "--callgrind-out-file=" + counts, path])
     if ran.status != 0:
-        return {}, "status %d: %s" % (ran.status, ran.stderr.decode("utf-8", "replace"))
+        return {}, "status %s: %s" % (ran.status, ran.stderr.decode("utf-8", "replace"))
     told = done(["callgrind_annotate", "--inclusive=yes", "--threshold=100", counts]).stdout.decode("utf-8", "replace")
     found = re.findall(r"(?m)^ *([\d,]+) .*:(\w+) \[%s\]$" % re.escape(path), told)
     return {name: int(count.replace(",", "")) // TIMES for count, name in found}, None

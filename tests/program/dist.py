@@ -114,7 +114,7 @@ def printed(words, wanted, **more):
         ran = subprocess.run(words, stdout=out, stderr=subprocess.PIPE, timeout=120, preexec_fn=limit, **more)
         out.seek(0)
         found = out.read(1000)
-    return None if ran.returncode == 0 and found == wanted else "status %d, printed %r, %r" % (ran.returncode, found[:300], ran.stderr[-600:])
+    return None if ran.returncode == 0 and found == wanted else "status %s, printed %r, %r" % (ran.returncode, found[:300], ran.stderr[-600:])
 
 
 def beside_in_c(documents, folder, environment):

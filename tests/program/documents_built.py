@@ -44,7 +44,7 @@ def run_of_c(document, archive, folder):
     ran = subprocess.run(["bash", "-c", line], cwd=folder, stdout=subprocess.PIPE, stderr=subprocess.STDOUT)
     shown = ["\n".join(block) + "\n" for block in blocks(document, "text")]
     same = [addresses_numbered(ran.stdout)] == [addresses_numbered(text.encode()) for text in shown]
-    return None if same and ran.returncode == 0 else "status %d, printed %r, but %r is shown" % (ran.returncode, ran.stdout, shown)
+    return None if same and ran.returncode == 0 else "status %s, printed %r, but %r is shown" % (ran.returncode, ran.stdout, shown)
 
 
 def c_programs(_program, folder):

@@ -6,7 +6,7 @@ import subprocess
 import sys
 
 # No case needs this much. A program that hangs or takes all memory is a failure, and does not harm the machine.
-SECONDS = 60
+SECONDS = 300
 BYTES = 4 << 30
 
 

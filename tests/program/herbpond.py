@@ -114,7 +114,7 @@ def wrong_types(_program, folder):
         made = compiled(CPP17, folder, PROGRAM % right)
         yield right, None if made.status == 0 else made.stderr.decode()
         made = compiled(CPP17, folder, PROGRAM % wrong)
-        yield wrong, None if made.status != 0 and said in made.stderr.decode() else "status %d: %s" % (made.status, made.stderr.decode())
+        yield wrong, None if made.status != 0 and said in made.stderr.decode() else "status %s: %s" % (made.status, made.stderr.decode())
 
 
 GROUPS = [alone, wrong_types]

@@ -301,7 +301,7 @@ def races(_program, folder):
         found = done([*helgrind(folder), lisp.path, BESIDE, "--heap", "20000", "--pauses"], input=text)
         totals = THREAD_TOTALS.search(found.stderr)
         is_right = found.status == 0 and found.stdout == b"done\n" and totals and int(totals.group(1)) > 0
-        yield "examples/lisp %s by helgrind" % BESIDE, None if is_right else "status %d: %s" % (found.status, found.stderr.decode()[-2000:])
+        yield "examples/lisp %s by helgrind" % BESIDE, None if is_right else "status %s: %s" % (found.status, found.stderr.decode()[-2000:])
     if usable(folder, "examples/lisp with ThreadSanitizer", ["gcc", *THREAD_SANITIZER]):
         watched = Lisp(lisp.built, "ThreadSanitizer", ["gcc", *THREAD_SANITIZER], [os.path.join(TOP, "bindings", "c", "gcflip_thread.c")])
         yield "examples/lisp with ThreadSanitizer", watched.why
@@ -311,7 +311,7 @@ def races(_program, folder):
             found = done(words, env=thread_sanitizer_options(folder))
             totals = THREAD_TOTALS.search(found.stderr)
             is_right = found.status == 0 and found.stdout == content("identity.output") and totals and int(totals.group(1)) > 0
-            yield "identity %s with ThreadSanitizer" % BESIDE, None if is_right else "status %d: %s" % (found.status, found.stderr.decode()[-2000:])
+            yield "identity %s with ThreadSanitizer" % BESIDE, None if is_right else "status %s: %s" % (found.status, found.stderr.decode()[-2000:])
 
 
 def evaluating(_program, _folder):
@@ -333,7 +333,7 @@ def command_line(_program, folder):
     for way, lisp in built_lisps():
         for words in WRONG_OPTIONS:
             status = lisp.run("", *words).status
-            yield "status of %s, %s" % (words, way), None if status == 2 else "status %d, wanted 2" % status
+            yield "status of %s, %s" % (words, way), None if status == 2 else "status %s, wanted 2" % status
         wrong = file_of(folder, "wrong.lisp", b"(display 1)\n(car\n 2)\n(display 3)\n")
         error = "error: %s, line 2, column 1: car expects a pair, but found 2\n" % wrong
         yield "an error in a file, %s" % way, difference(lisp.run("", wrong), Outcome(b"1", error.encode(), 1))
@@ -438,7 +438,7 @@ def limits(_program, _folder):
         for heap in range(2500, 4500, 97):
             found = lisp.run("(+ 1 2)", "--heap", str(heap))
             works = found.status == 0 and found.stdout == b"3\n" or found.status == 2 or FULL.fullmatch(found.stderr)
-            yield "%d words, %s" % (heap, way), None if works else "status %d, %r" % (found.status, found.stderr)
+            yield "%d words, %s" % (heap, way), None if works else "status %s, %r" % (found.status, found.stderr)
         deep = "(define (deep n) (if (= n 0) 0 (+ 1 (deep (- n 1))))) (deep 30000)"
         yield "30000 calls deep, %s" % way, difference(lisp.run(deep, "--heap", "1048576"), Outcome(b"30000\n"))
         found = lisp.run(DEEP, "--heap", "2000000", "--pauses")

@@ -64,7 +64,7 @@ def played(words, calls, wanted, **more):
     text = "".join(call + "\n" for call in calls.calls).encode()
     found = subprocess.run(words, input=text, stdout=subprocess.PIPE, stderr=subprocess.PIPE, timeout=SECONDS, **more)
     if found.returncode != 0:
-        return "status %d: %s" % (found.returncode, found.stderr.decode("utf-8", "replace")[-600:])
+        return "status %s: %s" % (found.returncode, found.stderr.decode("utf-8", "replace")[-600:])
     return first_difference(calls.calls, found.stdout.decode().splitlines(), wanted)
 
 

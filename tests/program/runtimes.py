@@ -105,7 +105,7 @@ def examples_alone(_program, folder):
         ran = made_alone(less, example, "check", env=dict(os.environ, PATH=tools))
         lines = re.findall(r"(?m)^missing: (.*)$", ran.stdout.decode())
         right = ran.status == 2 and [line for line in lines if not line.startswith(("rt,", KEYRING))] == list(signs) and not os.path.exists(less)
-        yield "what examples/%s lacks" % example, None if right else "status %d: %s" % (ran.status, lines)
+        yield "what examples/%s lacks" % example, None if right else "status %s: %s" % (ran.status, lines)
 
 
 # HotSpot's collectors.

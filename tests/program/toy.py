@@ -80,7 +80,7 @@ def hand_out(*words, **more):
 def refused(why, *words, **more):
     """Returns why hand_out does not refuse these words with status 2 and this line, or None."""
     ran = hand_out(*words, **more)
-    return None if ran.status == 2 and why in ran.stderr.decode() and not ran.stdout else "status %d: %s" % (ran.status, ran.stderr.decode())
+    return None if ran.status == 2 and why in ran.stderr.decode() and not ran.stdout else "status %s: %s" % (ran.status, ran.stderr.decode())
 
 
 def handed(target):
