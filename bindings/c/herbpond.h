@@ -67,6 +67,16 @@ typedef struct hp_weak_table {
     uint32_t unused; /* the list of unused entries */
 } hp_weak_table;
 
+/* In `fields` below: objects of the kind may have any number of fields. */
+#define HP_ANY_FIELDS UINT32_MAX
+
+/* What the program says of a kind, for printers, walks and checks. */
+typedef struct hp_kind {
+    const char *name; /* NULL if it has none */
+    uint32_t fields;  /* the number of fields of each object, or HP_ANY_FIELDS */
+    uint64_t numbers; /* bit i, from 0 to 63: field i holds a number. A raw object holds numbers alone, and needs no bit */
+} hp_kind;
+
 typedef struct hp hp;
 
 /* The program's hook. It gets the answer, and the name of the call that failed. It does not return. */
@@ -77,8 +87,8 @@ struct hp {
     gcflip_pace pace;
     gcflip_frame stack;
     hp_hook *failed;
-    const char *const *names; /* the names of kinds 0 to name_count - 1 */
-    uint32_t name_count;
+    const hp_kind *kinds; /* kinds 0 to kind_count - 1 */
+    uint32_t kind_count;
     uint32_t most;   /* the words up to which the heap grows; 0 if it does not */
     uint32_t credit; /* the words that objects may take before the collector works again; so many are free */
     hp_stats stats;
@@ -877,27 +887,63 @@ static inline bool hp_weak_next_dead(hp *h, uint64_t *token)
 
 /* ---- Kinds, and a walk over the heap */
 
-/* Names kinds 0 to count - 1. The names stay the program's. */
-static inline void hp_name_kinds(hp *h, const char *const *names, uint32_t count)
+/* Describes kinds 0 to count - 1. The table stays the program's. */
+static inline void hp_describe_kinds(hp *h, const hp_kind *kinds, uint32_t count)
 {
-    h->names = names;
-    h->name_count = count;
+    h->kinds = kinds;
+    h->kind_count = count;
 }
 
-/* Returns the name of a kind, or "" if it has none. The layer's own kinds are "spine", "part" and "box". */
+/* Returns the description of a kind, or NULL if it has none. The layer's own kinds are "spine", "part" and "box". */
+static inline const hp_kind *hp_kind_of(const hp *h, uint32_t kind)
+{
+    static const hp_kind own[] = {{"spine", HP_ANY_FIELDS, 0}, {"part", HP_ANY_FIELDS, 0}, {"box", 2, 0}};
+
+    if (kind < h->kind_count)
+        return &h->kinds[kind];
+    return kind >= HP_KIND_SPINE && kind <= HP_KIND_BOX ? &own[kind - HP_KIND_SPINE] : NULL;
+}
+
+/* Returns the name of a kind, or "" if it has none. */
 static inline const char *hp_kind_name(const hp *h, uint32_t kind)
 {
-    static const char *const own[] = {"spine", "part", "box"};
+    const hp_kind *found = hp_kind_of(h, kind);
 
-    if (kind < h->name_count)
-        return h->names[kind];
-    return kind >= HP_KIND_SPINE && kind <= HP_KIND_BOX ? own[kind - HP_KIND_SPINE] : "";
+    return found != NULL && found->name != NULL ? found->name : "";
 }
 
 typedef struct hp_object {
     uint32_t address; /* 0 before the first object */
     hp_value value;   /* what a look at a reference to it sees */
 } hp_object;
+
+/* Returns whether an object has the fields that the description of its kind says: so many, with a number in each that holds one. A field that was not
+ * written yet holds nil, which is no number. An object of a kind without a description fits. */
+static inline bool hp_object_fits(const hp *h, const hp_object *object)
+{
+    const hp_kind *kind = hp_kind_of(h, object->value.kind);
+    uint32_t i;
+
+    if (kind == NULL)
+        return true;
+    if (kind->fields != HP_ANY_FIELDS && kind->fields != object->value.count)
+        return false;
+    for (i = 0; i < 64 && i < object->value.count; i++)
+        if ((kind->numbers >> i & 1) != 0 && gcflip_field_at_seen(&h->heap, object->address, i).answer != GCFLIP_NUMBER)
+            return false;
+    return true;
+}
+
+/* Returns whether s refers to an object of this kind that fits it. */
+static inline bool hp_fits(hp *h, hp_root s, uint32_t kind)
+{
+    hp_object object = {0, hp_look(h, s)};
+
+    if (object.value.type < HP_OBJECT || object.value.kind != kind)
+        return false;
+    hp_answered(h, gcflip_address(&h->heap, hp_operand(h, s, "hp_fits"), &object.address), "hp_fits");
+    return hp_object_fits(h, &object);
+}
 
 /* Moves on to the next object of the heap, and returns true. Returns false behind the last one. A walk begins with address 0, and ends before the next
  * object is made or the collector works. It also meets objects that no root reaches. */

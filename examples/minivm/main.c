@@ -52,7 +52,7 @@ static const char *text_of(const char *path)
     return text;
 }
 
-/* Prints what the layer counted, and how many objects of each kind are reachable. */
+/* Prints what the layer counted, and how many objects of each kind are reachable. One that is not as its kind says is a mistake of minivm. */
 static void print_stats(void)
 {
     uint32_t found[256] = {0};
@@ -60,8 +60,11 @@ static void print_stats(void)
     for (hp_root r = 0; r < WORK_REGISTERS; r++)
         hp_set_nil(&vm, r);
     hp_collect(&vm);
-    while (hp_next(&vm, &object))
+    while (hp_next(&vm, &object)) {
+        if (!hp_object_fits(&vm, &object))
+            abort();
         found[object.value.kind]++;
+    }
     fprintf(stderr, "made %" PRIu64 " objects of %" PRIu64 " words; %" PRIu64 " flips, %" PRIu64 " waits; the heap has %" PRIu32 " words\n", vm.stats.objects, vm.stats.words,
             vm.stats.flips, vm.stats.waits, hp_counts(&vm).size);
     for (uint32_t kind = 0; kind < KINDS; kind++)
@@ -70,7 +73,7 @@ static void print_stats(void)
 
 int main(int count, char **words)
 {
-    static const char *const names[KINDS] = {"a text", "an array", "a table"};
+    static const hp_kind kinds[KINDS] = {{"a text", HP_ANY_FIELDS, 0}, {"an array", HP_ARRAY_FIELDS, 1 << HP_LENGTH}, {"a table", 3, 1 << 0}};
     uint32_t size = 1000000, most = 0;
     bool stats = false;
     int i = 1;
@@ -89,7 +92,7 @@ int main(int count, char **words)
     hp_open(&vm, size, PLACES, failed_outside);
     if (most > size)
         hp_growing(&vm, most);
-    hp_name_kinds(&vm, names, KINDS);
+    hp_describe_kinds(&vm, kinds, KINDS);
     int32_t main_function = compile(text_of(words[i]));
     vm.failed = heap_failed;
     bool done = run(main_function);

@@ -721,7 +721,6 @@ static void refused(void)
 
 static void walks(void)
 {
-    static const char *const names[] = {"pair", "text"};
     hp_object object = {0, {HP_NIL, 0, 0, 0, 0, 0}};
     hp_open(&h, 100, 4, hook);
     EXPECT(!hp_next(&h, &object) && object.address == 0);
@@ -732,11 +731,79 @@ static void walks(void)
     EXPECT(hp_next(&h, &object) && object.address == 5 && object.value.type == HP_RAW && object.value.kind == 1 && object.value.count == 0);
     EXPECT(hp_next(&h, &object) && object.address == 7 && object.value.type == HP_OBJECT && object.value.kind == 250 && object.value.count == 5);
     EXPECT(!hp_next(&h, &object) && object.address == 7);
-    EXPECT(strcmp(hp_kind_name(&h, 0), "") == 0);
-    hp_name_kinds(&h, names, 2);
-    EXPECT(strcmp(hp_kind_name(&h, 0), "pair") == 0 && strcmp(hp_kind_name(&h, 1), "text") == 0 && strcmp(hp_kind_name(&h, 2), "") == 0);
+    hp_close(&h);
+}
+
+/* ---- Kinds */
+
+/* Returns whether the object at this address fits its kind, as a walk meets it. */
+static bool fits_at(uint32_t address)
+{
+    hp_object object = {0, {HP_NIL, 0, 0, 0, 0, 0}};
+
+    while (hp_next(&h, &object))
+        if (object.address == address)
+            return hp_object_fits(&h, &object);
+    EXPECT(false);
+    return false;
+}
+
+static void kinds(void)
+{
+    /* field 64 and those behind it have no bit */
+    static const hp_kind table[] = {{"pair", 2, 0}, {"text", HP_ANY_FIELDS, 0}, {NULL, 3, 5}, {"row", HP_ANY_FIELDS, (uint64_t)1 << 63}};
+    uint32_t address;
+
+    hp_open(&h, 300, 4, hook);
+    EXPECT(strcmp(hp_kind_name(&h, 0), "") == 0 && hp_kind_of(&h, 0) == NULL);
+    hp_new(&h, 0, 0, 1);
+    EXPECT(hp_fits(&h, 0, 0));
+    hp_describe_kinds(&h, table, 4);
+    EXPECT(strcmp(hp_kind_name(&h, 0), "pair") == 0 && strcmp(hp_kind_name(&h, 1), "text") == 0 && strcmp(hp_kind_name(&h, 2), "") == 0 && strcmp(hp_kind_name(&h, 4), "") == 0);
     EXPECT(strcmp(hp_kind_name(&h, 253), "spine") == 0 && strcmp(hp_kind_name(&h, 254), "part") == 0 && strcmp(hp_kind_name(&h, 255), "box") == 0);
     EXPECT(strcmp(hp_kind_name(&h, 252), "") == 0 && strcmp(hp_kind_name(&h, 256), "") == 0);
+    EXPECT(hp_kind_of(&h, 2) == &table[2] && hp_kind_of(&h, 4) == NULL && hp_kind_of(&h, 255)->fields == 2);
+    /* the number of fields */
+    EXPECT(!hp_fits(&h, 0, 0) && !fits_at(1));
+    hp_new(&h, 1, 0, 2);
+    EXPECT(hp_fits(&h, 1, 0) && !hp_fits(&h, 1, 1) && fits_at(4));
+    hp_new_raw(&h, 2, 1, 0);
+    EXPECT(hp_fits(&h, 2, 1));
+    hp_new_raw(&h, 2, 1, 7);
+    EXPECT(hp_fits(&h, 2, 1));
+    /* numbers: fields 0 and 2 of kind 2, in which nil and a reference are none */
+    hp_new(&h, 2, 2, 3);
+    EXPECT(!hp_fits(&h, 2, 2));
+    hp_put_int(&h, 2, 0, 5);
+    EXPECT(!hp_fits(&h, 2, 2));
+    hp_put(&h, 2, 2, 1);
+    EXPECT(!hp_fits(&h, 2, 2));
+    hp_set_double(&h, 3, 0.5);
+    hp_put(&h, 2, 2, 3);
+    EXPECT(hp_fits(&h, 2, 2));
+    hp_put(&h, 2, 1, 1);
+    EXPECT(hp_fits(&h, 2, 2));
+    hp_new_raw(&h, 2, 2, 3);
+    EXPECT(hp_fits(&h, 2, 2));
+    /* the last field that has a bit, and one behind it */
+    hp_new(&h, 2, 3, 63);
+    EXPECT(hp_fits(&h, 2, 3));
+    hp_new(&h, 2, 3, 65);
+    EXPECT(!hp_fits(&h, 2, 3));
+    hp_put_int(&h, 2, 63, 1);
+    EXPECT(hp_fits(&h, 2, 3));
+    /* what refers to no object fits no kind, and an object of a kind without a description fits */
+    EXPECT(!hp_fits(&h, 3, 0));
+    hp_set_nil(&h, 3);
+    EXPECT(!hp_fits(&h, 3, 0));
+    hp_set_double(&h, 3, 1e300);
+    EXPECT(hp_fits(&h, 3, HP_KIND_BOX));
+    hp_new_raw(&h, 3, HP_KIND_BOX, 1);
+    EXPECT(!hp_fits(&h, 3, HP_KIND_BOX));
+    hp_new(&h, 3, 250, 5);
+    EXPECT(hp_fits(&h, 3, 250));
+    EXPECT(gcflip_address(&h.heap, 3, &address) == GCFLIP_DONE && fits_at(address));
+    FAILS(hp_fits(&h, 1 << 20, 0), GCFLIP_OUT_OF_RANGE, "hp_look");
     hp_close(&h);
 }
 
@@ -763,5 +830,6 @@ int main(void)
     texts_without_memory();
     refused();
     walks();
+    kinds();
     return 0;
 }

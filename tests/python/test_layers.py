@@ -9,6 +9,7 @@ import unittest
 import gcflip
 from gcflip import Heap, Object, arrays, kinds, values, weak
 from gcflip.arrays import PART, Arrays
+from gcflip.kinds import Kind
 from gcflip.values import LEAST_INT, MOST_INT, SPECIALS, Special
 from gcflip.weak import Table
 
@@ -96,8 +97,54 @@ class Values(unittest.TestCase):
         self.assertFalse(self.heap.is_same(0, 1))
 
     def test_kinds(self):
-        self.assertEqual([kinds.kind_name(["pair", "text"], kind) for kind in (0, 1, 2, 252)], ["pair", "text", "", ""])
+        table = [Kind("pair"), Kind("text")]
+        self.assertEqual([kinds.kind_name(table, kind) for kind in (0, 1, 2, 252)], ["pair", "text", "", ""])
         self.assertEqual([kinds.kind_name([], kind) for kind in (253, 254, 255, 256, -1)], ["spine", "part", "box", "", ""])
+        self.assertEqual((kinds.kind_of(table, 1), kinds.kind_of(table, 2), kinds.kind_of([], 255).fields), (table[1], None, 2))
+
+    def check_fit(self, table, kind, wanted):
+        self.assertEqual(kinds.fits(self.heap, table, 0, kind), wanted)
+        if isinstance(self.heap.look(0), Object):
+            self.assertEqual(kinds.object_fits(self.heap, table, self.heap.address(0)), wanted)
+
+    def test_objects_fit_their_kinds(self):
+        table = [Kind("pair", 2), Kind("", 3, {0, 2}), Kind("row", None, [70])]
+        # The number of fields.
+        self.heap.new(0, 0, 1)
+        self.check_fit(table, 0, False)
+        self.heap.new(0, 0, 2)
+        self.check_fit(table, 0, True)
+        self.assertFalse(kinds.fits(self.heap, table, 0, 1))
+        # Fields 0 and 2 of kind 1 hold numbers. None and a reference are none.
+        self.heap.new(1, 0, 2)
+        self.heap.new(0, 1, 3)
+        self.heap.put_number(0, 0, 0, 7)
+        self.check_fit(table, 1, False)
+        self.heap.put(0, 0, 2, 1)
+        self.check_fit(table, 1, False)
+        self.heap.put_number(0, 0, 2, 7)
+        self.check_fit(table, 1, True)
+        self.heap.new_raw(0, 1, 3)
+        self.check_fit(table, 1, True)
+        # A field that an object of any number of fields does not have needs no number.
+        self.heap.new(0, 2, 70)
+        self.check_fit(table, 2, True)
+        self.heap.new(0, 2, 71)
+        self.check_fit(table, 2, False)
+        # A kind without a description, and those of boxes.
+        self.heap.new(0, 250, 5)
+        self.check_fit(table, 250, True)
+        values.set_double(self.heap, 0, 0, 1e300)
+        self.check_fit(table, values.KIND_BOX, True)
+        self.heap.new_raw(0, values.KIND_BOX, 1)
+        self.check_fit(table, values.KIND_BOX, False)
+        # What refers to no object, and what is no object or no root.
+        self.heap.set_number(0, 5)
+        self.check_fit(table, 0, False)
+        self.heap.set_nil(0)
+        self.check_fit(table, 0, False)
+        self.assertFalse(kinds.object_fits(self.heap, table, 2) or kinds.object_fits(self.heap, table, (1 << 32) - 1))
+        self.assertRaises(gcflip.OutOfRange, kinds.fits, self.heap, table, 1 << 20, 0)
 
     def test_examples(self):
         for module in (arrays, kinds, values, weak):

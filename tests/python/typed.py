@@ -6,7 +6,7 @@ import array
 from gcflip import Comparison, Content, Counts, Heap, Image, LogEntry, Mutator, Object, Pace, Path, Ref, Refused, Step, Value, Work, check, check_text, compare, extra_place, own, path_to, place
 from gcflip import values
 from gcflip.arrays import Arrays
-from gcflip.kinds import kind_name
+from gcflip.kinds import Kind, fits, kind_name
 from gcflip.weak import Table
 
 
@@ -58,7 +58,8 @@ def layered(heap: Heap) -> int:
     code: int | None = values.code_of_double(0.5)
     table: Table = Table(heap)
     handle: int = table.weak_new(1, ("any", "token"))
-    name: str = kind_name(["pair"], 0)
+    kinds = [Kind("pair", 2, [0])]
+    name: str = kind_name(kinds, 0) if fits(heap, kinds, 1, 0) else ""
     return row.length(1) + handle + len(name) + (meant if isinstance(meant, int) else 0) + (code or 0) + len(list(table.dead()))
 
 

@@ -1,6 +1,6 @@
 //! Tests of the codes of integers, doubles and specials, with the vectors of tests/c/herbpond.c, and of the names of kinds.
 
-use gcflip::kinds::kind_name;
+use gcflip::kinds::{fits, kind_name, kind_of, object_fits, Kind};
 use gcflip::values::{code_of_double, code_of_int, code_of_special, value_of, Value, KIND_BOX, LEAST_INT, MOST_INT, SPECIALS};
 use gcflip::{Error, Heap, Place, Result};
 
@@ -119,7 +119,57 @@ fn specials_come_back() -> Result<()> {
 
 #[test]
 fn kinds_have_names() {
-    let names = ["pair", "text"];
-    assert_eq!([0, 1, 2, 252].map(|kind| kind_name(&names, kind)), ["pair", "text", "", ""]);
+    let kinds = ["pair", "text"].map(Kind::named);
+    assert_eq!([0, 1, 2, 252].map(|kind| kind_name(&kinds, kind)), ["pair", "text", "", ""]);
     assert_eq!([253, 254, 255].map(|kind| kind_name(&[], kind)), ["spine", "part", "box"]);
+    assert_eq!((kind_of(&kinds, 1), kind_of(&kinds, 2)), (Some(kinds[1]), None));
+    assert_eq!(kind_of(&kinds, 255).and_then(|kind| kind.fields), Some(2));
+}
+
+#[test]
+fn objects_fit_their_kinds() -> Result<()> {
+    let kinds = [Kind { name: "pair", fields: Some(2), numbers: &[] }, Kind { name: "", fields: Some(3), numbers: &[0, 2] }, Kind { name: "row", fields: None, numbers: &[70] }];
+    let heap = Heap::open(1000, 1)?;
+    let check = |kind, wanted| -> Result<()> {
+        assert_eq!(fits(&heap, &kinds, X, kind)?, wanted);
+        assert_eq!(heap.address(X)?.is_some_and(|address| object_fits(&heap, &kinds, address)), wanted);
+        Ok(())
+    };
+    // The number of fields.
+    heap.new_object(X, 0, 1)?;
+    check(0, false)?;
+    heap.new_object(X, 0, 2)?;
+    check(0, true)?;
+    assert!(!fits(&heap, &kinds, X, 1)?);
+    // Fields 0 and 2 of kind 1 hold numbers. Nil and a reference are none.
+    heap.new_object(OBJECT, 0, 2)?;
+    heap.new_object(X, 1, 3)?;
+    heap.put_number(0, X, 0, 7)?;
+    check(1, false)?;
+    heap.put(0, X, 2, OBJECT)?;
+    check(1, false)?;
+    heap.put_number(0, X, 2, 7)?;
+    check(1, true)?;
+    heap.new_raw(X, 1, 3)?;
+    check(1, true)?;
+    // A field that an object of any number of fields does not have needs no number.
+    heap.new_object(X, 2, 70)?;
+    check(2, true)?;
+    heap.new_object(X, 2, 71)?;
+    check(2, false)?;
+    // A kind without a description, and those of boxes.
+    heap.new_object(X, 250, 5)?;
+    check(250, true)?;
+    heap.set_double(0, X, 1e300)?;
+    check(KIND_BOX, true)?;
+    heap.new_raw(X, KIND_BOX, 1)?;
+    check(KIND_BOX, false)?;
+    // What refers to no object, and what is no object or no root.
+    heap.set_int(X, 5)?;
+    check(0, false)?;
+    heap.set_nil(X)?;
+    check(0, false)?;
+    assert!(!object_fits(&heap, &kinds, 2) && !object_fits(&heap, &kinds, u32::MAX));
+    assert_eq!(fits(&heap, &kinds, Place(1 << 20), 0), Err(Error::OutOfRange));
+    Ok(())
 }
