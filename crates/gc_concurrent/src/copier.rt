@@ -1,5 +1,5 @@
 //! The collector's thread: it makes replicas in the space of the next heap.
-ghost use Rattle.std.specs.Prelude.{◌≡◌, ◌≢◌, ℕ, ◌+◌, ◌-◌, ◌*◌, ◌^◌, ◌<◌, ◌≤◌, true, false, List, [], ◌∷◌, ◌++◌, drop, length, slice_index, IfOk, IfErr, IfSome, IfNone, IsTrue, IsFalse, IsSome, ◌⊎◌, ◌&&◌, if◌then◌else◌, OnErr, OnOk};
+ghost use Rattle.std.specs.Prelude.{◌≡◌, ◌≢◌, ℕ, ◌+◌, ◌-◌, ◌*◌, ◌^◌, ◌<◌, ◌≤◌, true, false, List, [], ◌∷◌, ◌++◌, drop, length, slice_index, slice_set, IfOk, IfErr, IfSome, IfNone, IsTrue, IsFalse, IsSome, ◌⊎◌, ◌&&◌, if◌then◌else◌, OnErr, OnOk};
 ghost use Rattle.std.specs.Arc.{arc_value};
 ghost use Rattle.gc_graph.specs.Graph.{Ref};
 ghost use Rattle.gc_words.specs.Word.{is_value, value_of};
@@ -172,6 +172,14 @@ fn oldest_of(
     })
 }
 
+// The object at `name` has the replica at `place`.
+fn claim(claims: &mut Vec<u32>, name: u32, place: u32)
+    requires { half name < length claims.old.items }
+    ensures { claims.new.items ≡ slice_set claims.old.items (half name) place }
+{
+    claims[half(name)] = place;
+}
+
 // How many fields of a new replica are to be filled.
 fn to_fill(header: Header) -> u16
     ensures { result ≡ (if header.raw then header.len else 0) }
@@ -320,7 +328,7 @@ impl Copier {
             name,
             header.word(),
         );
-        self.claims[half(name)] = at.0;
+        claim(&mut self.claims, name, at.0);
         self.has_wanted = false;
         self.fill = name;
         self.fill_next = 0;

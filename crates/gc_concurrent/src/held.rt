@@ -113,8 +113,6 @@ pub(crate) fn hold(commander: Commander, copier: Copier) -> Held
     cells.shared.join_seat::<Roles>(&mut own, seat);
     cells.shared.load::<Took>(&mut own, 0);
     tell(&mut standing, claims.as_slice(), log.as_slice());
-    let mut empty = due;
-    empty.clear();
     Held {
         copier: Copier {
             cells,
@@ -137,12 +135,21 @@ pub(crate) fn hold(commander: Commander, copier: Copier) -> Held
         },
         other,
         logs,
-        log: empty,
+        log: emptied(due),
         roots,
         end,
         moves,
         starts,
     }
+}
+
+// The log whose entries were applied, without them. Its room is used again.
+fn emptied(log: Vec<(u32, u16)>) -> Vec<(u32, u16)>
+    ensures { result.items ≡ [] }
+{
+    let mut empty = log;
+    empty.clear();
+    empty
 }
 
 // The root words as they refer to replicas. Fails if the target of one has none.

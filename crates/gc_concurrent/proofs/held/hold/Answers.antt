@@ -59,7 +59,7 @@ invariant_of-result-2 c =
       both = ap (λ (x : Sat). x.0.writes) took ∙ ap (λ (x : Sat). x.0.writes) joined;
       row = (m.row.0 ∙ id, m.row.2 ∙ size);
       logging = ap (λ (x : Mine). x.logs) mine ∙ m.logging;
-      empty = (c.clear.ensures.items, ap (λ (x : Mine). x.log) mine);
+      empty = (c.emptied.ensures, ap (λ (x : Mine). x.log) mine);
       ended = (ap (λ (x : Mine). length x.space.words) mine ∙ c.args.commander.ended, ap (λ (x : Mine). x.space.size) mine ∙ (m.sized ∙ size));
       behind = (let e = ap (λ (x : Mine). end_of x.base.heap.space) mine in let b = c.args.commander.behind in omega arith);
       begun = ap (λ (x : Sat). x.0.theirs.base) took ∙ (c.load.ensures.2.0.1 ∙ sym (ap (λ (x : Sat). x.0.mine.base.heap) took));

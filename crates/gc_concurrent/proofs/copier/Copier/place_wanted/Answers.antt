@@ -22,6 +22,7 @@ use Rattle.gc_concurrent.specs.Ends.{Theirs}
 use Rattle.gc_concurrent.specs.Internal.Rule.{Sat, Loose, placed_one, blank_replica, entries_of_fields, to_fill}
 use Rattle.gc_concurrent.specs.Ends.{its}
 use Rattle.gc_concurrent.specs.Internal.Copiers.{Claims, HasOwnHalf}
+use Rattle.gc_concurrent.specs.Moves.{half}
 use Rattle.gc_concurrent.proofs.TiedCells.{tied, tied_words}
 use Rattle.gc_concurrent.proofs.Placing.{places}
 use Rattle.gc_concurrent.proofs.Halves.{wanted_own}
@@ -186,8 +187,8 @@ place-requires-clause-knows c =
       },
     ) ∣₁)))
 
-pub index_mut-requires : goal.index_mut-requires
-index_mut-requires c = let l = low c.args.self.now c.requires.wanted in let n = c.args.self.now.claimed.long in omega (arith, c.half.ensures)
+pub claim-requires : goal.claim-requires
+claim-requires c = let l = low c.args.self.now c.requires.wanted in let n = c.args.self.now.claimed.long in omega arith
 
 -- only raw objects are filled
 fills_raw : (raw : Bool) (len : ℕ) → ((if raw then len else 0) ≡ 0 → ⊥) → raw ≡ true
@@ -207,6 +208,7 @@ invariant_of-self-2 c =
     let at : c.place-at.result.0 ≡ end_of (a l).space = c.place-at.ensures.at in
     let space : c.set_link.new.self ≡ with_link (with_object (a l).space h) (end_of (a l).space) (a l).wanted = c.set_link.ensures.words ∙ (λ i. with_link (c.place-at.ensures.words i) (c.place-at.ensures.at i) (c.from.ensures i)) in
     let place : new_end (its (t l)) ≡ c.place-at.result.0 = end_is (t l) (a l).space (mem (a l)) ∙ sym at in
+    let claims : c.claim.new.claims.items ≡ slice_set (a l).claims.items (half (a l).wanted) (new_end (its (t l))) = c.claim.ensures ∙ ap (slice_set (a l).claims.items (half (a l).wanted)) (sym place) in
     let td : (t l).due ≡ drop (a l).next (a l).due.items = (a l).dues.0 ∙ ap (λ n. entries_of_fields (a l).fill (a l).fill_next n ++ drop (a l).next (a l).due.items) (c.args.self.now.aimed c.requires.wanted).0 in
     let header : h ≡ record { raw = o.raw; kind = o.kind; len = length o.fields } = same_header l h c.of_word-header.ensures in
     let tf : to_fill o ≡ c.to_fill-self.result = sym (c.to_fill-self.ensures ∙ (λ i. if (header i).raw then (header i).len else 0)) in
@@ -224,7 +226,7 @@ invariant_of-self-2 c =
           (λ there. absurd (unnamed (its (t l)) (a l).wanted (none l) (subst (λ x. In x (map (λ (r : Replica). r.original) (t l).replicas)) e (in_map (λ (r : Replica). r.original) q (t l).replicas there))))
           (λ blank. sym (ap (λ (r : Replica). r.object.raw) blank) ∙ fills_raw o.raw (length o.fields) (λ z. n (sym tf ∙ z)))
           (in_push q (blank_replica (a l).wanted (new_end (its (t l))) o) (t l).replicas (subst (In q) (ap (λ (y : Theirs). y.replicas) is) k));
-      claimed = subst (λ (z : (ℕ × ℕ) × Theirs). Claims (slice_set (a l).claims.items z.0.0 z.0.1) z.1) (λ i. ((sym c.half.ensures i, place i), sym is i)) (claims_placed (a l).claims.items (t l) (a l).wanted o (a l).claimed (none l) (own (a l) c.requires.wanted));
+      claimed = subst (λ (z : List ℕ × Theirs). Claims z.0 z.1) (λ i. (sym claims i, sym is i)) (claims_placed (a l).claims.items (t l) (a l).wanted o (a l).claimed (none l) (own (a l) c.requires.wanted));
       loose = loose_seen c.load-word.new.seat.me c.place.new.seat.me _ c.place.ensures.seen (loose l);
       along = along_placed (a l).standing c.place.new.standing c.load-word.new.seat.me.0.seen c.place.new.seat.me.0.seen (a l).space c.set_link.new.self h c.word.result (a l).wanted space c.word.ensures.word c.word.ensures.read_back c.place.ensures.along
           (along_still (a l).standing (a l).seat.me c.load-word.new.seat.me (a l).space (a l).space (ap (λ (m : Sat). m.0.seen) went) refl (a l).along);
