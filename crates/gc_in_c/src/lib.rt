@@ -1,9 +1,10 @@
-//! What the libraries for C share: the numbers of answers and replies, what a look writes, and boxes taken apart for handles.
+//! What the libraries for C share: the numbers of answers and replies, what a look writes, numbers that are told, and boxes taken apart for handles.
 #![tactic(auto)]
 
 mod answer;
 mod parts;
 mod reply;
+mod telling;
 
 pub use answer::{
     CLOSED, DONE, FLIPPED, NIL, NO_FIELD, NO_MEMORY, NO_OBJECT, NO_ROOM, NUMBER, OBJECT, OPEN,
@@ -11,3 +12,4 @@ pub use answer::{
 };
 pub use parts::Parts;
 pub use reply::{GcflipView, of_fetched, of_got, of_look, of_reply, of_result};
+pub use telling::{are_places, tell_number};

@@ -2,7 +2,6 @@
 //! and read the object there.
 
 ghost use Rattle.std.specs.Prelude.{◌≡◌, ◌≢◌, ◌<◌, ◌≤◌, ⊤, IsSomeAnd};
-ghost use Rattle.std.specs.Option.{option_map};
 ghost use Rattle.gc_check.specs.InC.{done, no_memory, IsRefusal};
 ghost use Rattle.gc_graph.specs.Graph.{Ref, lookup};
 ghost use Rattle.gc_graph.specs.Machine.{view_of};
@@ -16,40 +15,14 @@ ghost use Rattle.gcflip_beside_c.specs.Addresses.{HasFlipped, Refers, address_of
 ghost use Rattle.gcflip_beside_c.specs.Commands.{IsBesideCall, IsBesideReply};
 ghost use Rattle.gcflip_beside_c.specs.HandleStage.{stage, runs, cells_at};
 
-use crate::answer::{CLOSED, DONE, NO_FIELD, NO_OBJECT, OUT_OF_RANGE, PARKED};
+use crate::answer::{CLOSED, NO_FIELD, OUT_OF_RANGE, PARKED};
 use crate::end::End;
 use crate::guards::{in_range, lent};
 use crate::handle::GcflipEnd;
 use gc_concurrent::Commander;
 use gc_graph::{Reply, View};
-use gc_in_c::{GcflipView, of_look, of_reply};
-use gc_words::{NewAddr, OldAddr, Value};
-
-// Writes this address, if there is one.
-fn tell_address(found: Option<OldAddr>, address: &mut u32) -> u32
-    ensures { TellsNumber (option_map (λ a. a.0) found) address.old address.new result }
-{
-    match found {
-        None => NO_OBJECT,
-        Some(at) => {
-            *address = at.0;
-            DONE
-        }
-    }
-}
-
-// Does the same with an address after a flip.
-fn tell_moved(place: Option<NewAddr>, address: &mut u32) -> u32
-    ensures { TellsNumber (option_map (λ a. a.0) place) address.old address.new result }
-{
-    match place {
-        None => NO_OBJECT,
-        Some(at) => {
-            *address = at.0;
-            DONE
-        }
-    }
-}
+use gc_in_c::{GcflipView, of_look, of_reply, tell_number};
+use gc_words::{OldAddr, Value};
 
 // Writes the address of the object that root `s` refers to.
 fn address_told(commander: &Commander, s: u32, address: &mut u32) -> u32
@@ -59,7 +32,7 @@ fn address_told(commander: &Commander, s: u32, address: &mut u32) -> u32
     ensures memory { result ≢ no_memory }
 {
     in_range!(commander, s);
-    tell_address(commander.address_root(s), address)
+    tell_number(commander.address_root(s).map(|at| at.0), address)
 }
 
 /// Writes the address of the object that root `s` refers to to `address`, if there is one. A flip gives objects other addresses.
@@ -94,7 +67,7 @@ fn move_told(commander: &Commander, old: u32, address: &mut u32) -> u32
     if commander.flips() == 0 {
         return OUT_OF_RANGE;
     }
-    tell_moved(commander.moved(OldAddr(old)), address)
+    tell_number(commander.moved(OldAddr(old)).map(|at| at.0), address)
 }
 
 /// Writes the address to which the last flip moved the object that was at the address `old` before it. Returns 18 if the object died, and 2 before the first flip.

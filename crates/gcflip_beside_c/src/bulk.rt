@@ -18,19 +18,7 @@ use crate::end::End;
 use crate::guards::{in_range, lent};
 use crate::handle::GcflipEnd;
 use gc_concurrent::Commander;
-use gc_in_c::{GcflipView, of_look, of_reply, of_result};
-
-// Returns whether each of these is the place of one of so many roots.
-fn are_places(places: &[u32], roots: u32) -> bool
-    ensures { IsTrue result ↔ AllByRecursion (λ p. p < roots) places.now }
-{
-    for place in places {
-        if *place >= roots {
-            return false;
-        }
-    }
-    true
-}
+use gc_in_c::{GcflipView, are_places, of_look, of_reply, of_result};
 
 // Returns whether the mutator has a root at each of so many places, from `first` on.
 fn has_range(commander: &Commander, first: u32, count: u32) -> bool
@@ -107,7 +95,8 @@ pub extern "C" fn gcflip_beside_new_from(
         _ => return CLOSED,
     };
     in_range!(runner.commander, d);
-    if kind > 255 || fields.len() > 65535 || !are_places(fields, runner.commander.count_roots()) {
+    let roots = runner.commander.count_roots() as usize;
+    if kind > 255 || fields.len() > 65535 || !are_places(fields, roots) {
         return OUT_OF_RANGE;
     }
     of_result(runner.commander.new_from_root(d, kind as u8, fields))

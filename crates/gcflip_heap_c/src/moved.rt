@@ -6,25 +6,11 @@ ghost use Rattle.gc_copy.specs.Words.{moved_in};
 ghost use Rattle.gcflip_heap_c.specs.Commands.{IsCall};
 ghost use Rattle.gc_in_c.specs.Telling.{TellsNumber};
 
-use crate::answer::{DONE, NO_OBJECT, OUT_OF_RANGE};
+use crate::answer::OUT_OF_RANGE;
 use crate::guards::lent;
 use crate::handle::GcflipHeap;
-use gc_copy::Room;
+use gc_in_c::tell_number;
 use gc_words::OldAddr;
-
-/// Writes the address to which the last flip moved the object that was at the address `old` before it, if it did not die.
-/// Returns 0, or 18 if the object died.
-fn read_moved(former: &Room, old: u32, address: &mut u32) -> u32
-    ensures { TellsNumber (moved_in former.now old) address.old address.new result }
-{
-    match former.moved(OldAddr(old)) {
-        None => NO_OBJECT,
-        Some(at) => {
-            *address = at.0;
-            DONE
-        }
-    }
-}
 
 /// Writes the address to which the last flip moved the object that was at the address `old` before it. Returns 18 if the object died, and 2
 /// if a collection has begun since the flip, or no flip has been. For an `old` at which no object started, any of these may come. Calls
@@ -40,7 +26,7 @@ pub extern "C" fn gcflip_moved(heap: &mut GcflipHeap, old: u32, address: &mut u3
 {
     match lent!(heap).former() {
         None => OUT_OF_RANGE,
-        Some(former) => read_moved(former, old, address),
+        Some(former) => tell_number(former.moved(OldAddr(old)).map(|at| at.0), address),
     }
 }
 

@@ -15,8 +15,7 @@ ghost use Rattle.gcflip_heap_c.specs.Slots.{NamesSlots, numbered_slot};
 use crate::answer::{DONE, NO_FIELD, NO_OBJECT, OUT_OF_RANGE};
 use crate::guards::{lent, lent_to, slot_named};
 use crate::handle::GcflipHeap;
-use gc_in_c::of_result;
-use gc_words::OldAddr;
+use gc_in_c::{of_result, tell_number};
 
 /// Copies these numbers, if there are any, from number `first` on, if there are as many as the array takes.
 fn read_raw(numbers: Option<&[u64]>, first: usize, words: &mut [u64]) -> u32
@@ -126,19 +125,6 @@ pub extern "C" fn gcflip_raw_write(
     of_result(heap.put_root_numbers(m as u8, s, first, words))
 }
 
-/// Writes this address, if there is one.
-fn tell_address(found: Option<OldAddr>, address: &mut u32) -> u32
-    ensures { TellsNumber (option_map (λ a. a.0) found) address.old address.new result }
-{
-    match found {
-        None => NO_OBJECT,
-        Some(at) => {
-            *address = at.0;
-            DONE
-        }
-    }
-}
-
 /// Writes the address of the object that slot `s` refers to to `address`, if there is one. A flip gives objects other addresses.
 #[unsafe(no_mangle)]
 pub extern "C" fn gcflip_heap_address(heap: &mut GcflipHeap, m: u8, s: u8, address: &mut u32) -> u32
@@ -151,7 +137,7 @@ pub extern "C" fn gcflip_heap_address(heap: &mut GcflipHeap, m: u8, s: u8, addre
 {
     let heap = lent_to!(heap, m);
     let s = slot_named!(s);
-    tell_address(heap.address(m, s), address)
+    tell_number(heap.address(m, s).map(|at| at.0), address)
 }
 
 /// Writes the address of the object that root `s` refers to to `address`, as `gcflip_heap_address` does.
@@ -168,5 +154,5 @@ pub extern "C" fn gcflip_address(heap: &mut GcflipHeap, s: u32, address: &mut u3
     if s as usize >= heap.root_places() {
         return OUT_OF_RANGE;
     }
-    tell_address(heap.address_root(s), address)
+    tell_number(heap.address_root(s).map(|at| at.0), address)
 }

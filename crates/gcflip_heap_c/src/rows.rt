@@ -16,19 +16,7 @@ use crate::answer::{DONE, OUT_OF_RANGE};
 use crate::guards::lent;
 use crate::handle::GcflipHeap;
 use gc_collected::{CollectedHeap, RootRow};
-use gc_in_c::{of_reply, of_result};
-
-// Returns whether each of these is the place of a root, of which there are so many.
-fn are_places(places: &[u32], roots: usize) -> bool
-    ensures { IsTrue result ↔ AllByRecursion (λ p. p < roots) places.now }
-{
-    for place in places {
-        if *place as usize >= roots {
-            return false;
-        }
-    }
-    true
-}
+use gc_in_c::{are_places, of_reply, of_result};
 
 // Returns whether the heap has a root at each of so many places, from `first` on.
 #[inline(always)]
