@@ -25,6 +25,7 @@ pub mod Public
 mod Referred
 mod Reserved
 mod Rooted
+mod SetAndGet
 mod Shown
 mod Runs
 mod RunsKnow
