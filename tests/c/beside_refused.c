@@ -151,6 +151,24 @@ static void fails_unseen(void)
     }
 }
 
+/* A flip for which memory runs out leaves what its collection has copied, and the next flip keeps it. So a call that reserves room waits for another one. */
+static void reserves_after_a_failed_flip(void)
+{
+    gcflip_pace pace = gcflip_pace_default();
+    gcflip_mutator *mutator;
+
+    EXPECT(gcflip_thread_open(&thread, WORDS, 0, &pace) == GCFLIP_DONE);
+    mutator = gcflip_thread_mutator(thread);
+    EXPECT(gcflip_beside_new(mutator, 3, 1, 100) == GCFLIP_MADE);
+    refuses = true;
+    EXPECT(gcflip_thread_collect(thread) == GCFLIP_NO_MEMORY);
+    refuses = false;
+    EXPECT(gcflip_beside_set_nil(mutator, 3) == GCFLIP_DONE);
+    EXPECT(gcflip_thread_reserve(thread, WORDS - 1) == GCFLIP_DONE && gcflip_beside_room(mutator) == WORDS - 1);
+    gcflip_thread_close(thread);
+    EXPECT(blocks == 0);
+}
+
 /* ---- Each allocation of a run refused in turn */
 
 /* A list of LISTED objects fills half of the heap, and copying it takes more steps than the collector performs at a stop. So the program goes on to write
@@ -301,6 +319,7 @@ int main(void)
     fails_unseen();
     gcflip_thread_close(thread);
     EXPECT(blocks == 0);
+    reserves_after_a_failed_flip();
     refused_in_turn();
     return 0;
 }
