@@ -685,7 +685,7 @@ class Heap(quick.Quickened):
 
     def raw_read(self, root: int, first: int, count: int) -> array.array[int]:
         """Returns the numbers in `count` fields of the raw object that the root refers to, from field `first` on. Raises NoObject if it refers to no raw object,
-        and NoField if the object has fewer fields."""
+        NoField if the object has fewer fields, and OutOfRange also for a count above 65535."""
         root, first, count = in_range((root, first, count), (*ROOTS["raw_read"][:2], ctypes.c_uint16))
         numbers = _zeros(count)
         self._turn.take(lambda: self._made_roots("raw_read", root, first, numbers.buffer_info()[0], count))
