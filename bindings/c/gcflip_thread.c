@@ -92,6 +92,7 @@ struct gcflip_thread {
     uint64_t steps;      /* those beside the mutator, of the collection that is under way */
     uint64_t wanted;     /* the steps for which the mutator waits, or NEVER */
     uint64_t last_steps; /* those of the last collection that flipped */
+    bool has_failed;     /* the collection that ended last, so that its copies are left to the next one */
     gcflip_thread_counts counts;
     gcflip_flip_checks checks;
 };
@@ -168,13 +169,17 @@ static void lets_go(gcflip_thread *thread, uint32_t answer)
     pthread_mutex_lock(&thread->lock);
     thread->counts.flips += answer == GCFLIP_FLIPPED;
     if (answer == GCFLIP_FLIPPED) {
+        thread->has_failed = false;
         gcflip_beside_flip_checks(&thread->collector, &thread->checks);
         thread->last_steps = thread->steps;
         if (thread->stops > thread->counts.most_stops) {
             thread->counts.most_stops = thread->stops;
         }
     }
-    thread->counts.failed += answer == GCFLIP_NO_MEMORY;
+    if (answer == GCFLIP_NO_MEMORY) {
+        thread->has_failed = true;
+        thread->counts.failed++;
+    }
     thread->is_let_go = true;
     pthread_cond_signal(&thread->let_go);
     pthread_mutex_unlock(&thread->lock);
@@ -626,13 +631,16 @@ static bool has_ended(const gcflip_thread *thread, uint64_t so_far)
     return ends(thread) != so_far;
 }
 
-/* Whether a collection is under way. One that has failed meanwhile is none. */
-static bool is_collecting(gcflip_thread *thread)
+/* Whether a collection that is called for now copies only what is live when it begins. One that is under way, or that failed, has copies from before. */
+static bool begins_anew(gcflip_thread *thread)
 {
+    bool has_copies;
+
     pthread_mutex_lock(&thread->lock);
     sees_ends(thread);
+    has_copies = thread->has_called || thread->has_failed;
     pthread_mutex_unlock(&thread->lock);
-    return thread->has_called;
+    return !has_copies;
 }
 
 /* Waits for the end of the collection that is under way, or of one that it calls for. Counts this as a wait of a safepoint if it is one. */
@@ -677,8 +685,7 @@ uint32_t gcflip_thread_reserve(gcflip_thread *thread, uint32_t words)
         if (is_whole || thread->is_following) {
             return GCFLIP_FULL;
         }
-        /* One that is under way may copy what has become garbage since it began. */
-        is_whole = !is_collecting(thread);
+        is_whole = begins_anew(thread);
         if (ends_one(thread, true) != GCFLIP_FLIPPED) {
             return GCFLIP_NO_MEMORY;
         }

@@ -33,7 +33,7 @@ typedef struct gcflip_thread_counts {
     uint64_t failed;       /* the flips for which memory ran out */
     uint64_t stops;        /* how often the mutator stopped for the collector */
     uint64_t most_stops;   /* the stops of the flip that took most */
-    uint64_t throttled;    /* the safepoints that waited because the mutator was ahead of the collector */
+    uint64_t throttled;    /* the safepoints that waited until the collector had caught up, or had flipped */
     uint64_t waited;       /* the time that the mutator waited at safepoints, together */
     uint64_t longest_wait; /* the longest wait of a safepoint */
 } gcflip_thread_counts;

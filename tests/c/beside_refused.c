@@ -151,11 +151,35 @@ static void fails_unseen(void)
     }
 }
 
+/* A flip for which memory runs out leaves what its collection has copied, and the next flip keeps it. So a call that reserves room waits for another one. */
+static void reserves_after_a_failed_flip(void)
+{
+    gcflip_pace pace = gcflip_pace_default();
+    gcflip_mutator *mutator;
+
+    EXPECT(gcflip_thread_open(&thread, WORDS, 0, &pace) == GCFLIP_DONE);
+    mutator = gcflip_thread_mutator(thread);
+    EXPECT(gcflip_beside_new(mutator, 3, 1, 100) == GCFLIP_MADE);
+    refuses = true;
+    EXPECT(gcflip_thread_collect(thread) == GCFLIP_NO_MEMORY);
+    refuses = false;
+    EXPECT(gcflip_beside_set_nil(mutator, 3) == GCFLIP_DONE);
+    EXPECT(gcflip_thread_reserve(thread, WORDS - 1) == GCFLIP_DONE && gcflip_beside_room(mutator) == WORDS - 1);
+    gcflip_thread_close(thread);
+    EXPECT(blocks == 0);
+}
+
 /* ---- Each allocation of a run refused in turn */
 
-/* A list of LISTED objects fills half of the heap, and copying it takes more steps than the collector performs at a stop. So the program goes on to write
-   meanwhile, and its log grows. */
-enum { SMALL = 1 << 14, LISTED = 2000, FLIPS = 4, LIST = 4, NEWEST = 5, NUMBER = 6, READ = 7 };
+/* Copying a list of LISTED objects takes more steps than the collector performs at a stop. So the program goes on to write meanwhile, and its log grows. No
+   collection begins before the list has its LISTED_WORDS, so that a slow machine makes no more requests in a run than a fast one. */
+enum { SMALL = 1 << 14, LISTED = 1200, LISTED_WORDS = 4 * LISTED, LIST = 4, NEWEST = 5, NUMBER = 6, READ = 7 };
+
+/* A run ends after FLIPS flips. It goes on, up to MOST_FLIPS, while the program has made no request: it then wrote nothing while the collector copied. */
+enum { FLIPS = 4, MOST_FLIPS = 64 };
+
+/* After so many writes the program sleeps, so that the collector's thread gets its turn on a busy machine and by valgrind. */
+enum { WRITES = 256 };
 
 /* Writes the value of root t into field i of the object in root s, which had `before`. If memory runs out for the log, that is still there, and the put
    succeeds when it is retried. */
@@ -204,6 +228,12 @@ static void expect_list(gcflip_mutator *mutator, uint64_t first)
     }
 }
 
+/* Whether a run with so many flips ends. */
+static bool has_run(uint64_t flips)
+{
+    return flips >= MOST_FLIPS || (flips >= FLIPS && requests[PROGRAMS] > 0);
+}
+
 /* Opens a heap whose collections follow one another, of which each second flip checks both spaces whole. Writes into the list and makes garbage until some
    of them have flipped. The request with this number is refused to this thread. Returns whether there was one. */
 static bool runs_without(int refused, long request)
@@ -217,7 +247,7 @@ static bool runs_without(int refused, long request)
 
     options.whole_each = 2;
     pace.factor = 100;
-    pace.least = 0;
+    pace.least = LISTED_WORDS;
     has_refused = false;
     requests[COLLECTORS] = requests[PROGRAMS] = 0;
     refused_one[refused] = request;
@@ -225,12 +255,14 @@ static bool runs_without(int refused, long request)
     if (answer == GCFLIP_DONE) {
         mutator = gcflip_thread_mutator(thread);
         make_list(mutator);
-        while (counts.flips < FLIPS || requests[PROGRAMS] == 0) {
+        while (!has_run(counts.flips)) {
             EXPECT(gcflip_beside_set_number(mutator, NUMBER, written + 1) == GCFLIP_DONE);
             put(mutator, LIST, 1, NUMBER, GCFLIP_NUMBER, written);
             written++;
             if (written % 64 == 0)
                 make(mutator);
+            if (written % WRITES == 0)
+                sleeps(1);
             EXPECT(gcflip_thread_safepoint(thread) == GCFLIP_DONE);
             gcflip_thread_read(thread, &counts);
         }
@@ -301,6 +333,7 @@ int main(void)
     fails_unseen();
     gcflip_thread_close(thread);
     EXPECT(blocks == 0);
+    reserves_after_a_failed_flip();
     refused_in_turn();
     return 0;
 }

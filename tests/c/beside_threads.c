@@ -512,6 +512,8 @@ static uint64_t runs(uint64_t commands)
             wait_for_flip();
     }
     if (schedule->by_source) {
+        /* while the mutator runs, no flip comes between the two reads */
+        EXPECT(gcflip_thread_safepoint(thread) == GCFLIP_DONE);
         gcflip_thread_read(thread, &counts);
         gcflip_thread_flip_checks(thread, &checks);
         gcflip_thread_close(thread);

@@ -45,7 +45,7 @@ def programs(_program, folder):
 
 
 def sanitized(_program, folder):
-    """The source of the thread with sanitizers, and both programs by valgrind. The proved archive is not instrumented."""
+    """The source of the thread with sanitizers, and programs with the archive by valgrind. The proved archive is not instrumented."""
     built = library(folder, Beside)
     if built is None:
         return

@@ -28,6 +28,8 @@ from distribution.links import linked, links_in  # noqa: E402
 TOOL = os.path.join(TOP, "tools", "dist")
 # A user waits at most so long for the first run from a package.
 SECONDS = 10
+# A try of a package, and of what is built with it, ends after so many seconds.
+SECONDS_OF_A_RUN = 600
 # The most bytes of a file that a tried program, and its compiler, may write.
 MOST_OUTPUT = 1 << 28
 FIRST_HEAP = b"mutators go on\nmutators go on\nflipped 1\nsaw 42\n"
@@ -111,7 +113,10 @@ def printed(words, wanted, **more):
     with tempfile.TemporaryFile() as out:
         # A program that prints without end is stopped by the limit.
         limit = lambda: resource.setrlimit(resource.RLIMIT_FSIZE, (MOST_OUTPUT, MOST_OUTPUT))  # noqa: E731
-        ran = subprocess.run(words, stdout=out, stderr=subprocess.PIPE, timeout=120, preexec_fn=limit, **more)
+        try:
+            ran = subprocess.run(words, stdout=out, stderr=subprocess.PIPE, timeout=SECONDS_OF_A_RUN, preexec_fn=limit, **more)
+        except subprocess.TimeoutExpired:
+            return "no end after %d seconds" % SECONDS_OF_A_RUN
         out.seek(0)
         found = out.read(1000)
     return None if ran.returncode == 0 and found == wanted else "status %s, printed %r, %r" % (ran.returncode, found[:300], ran.stderr[-600:])

@@ -348,16 +348,28 @@ def command_line(_program, folder):
         yield "a full disk, %s" % way, None if status == 1 else "status %s, wanted 1" % status
 
 
+# A run gets at most so many signals. After each it has so many seconds to read what follows, and to end.
+SIGNALS, SECONDS_TO_END = 60, 2
+
+
 def interrupted(lisp, endless):
     """Runs an endless expression and interrupts it. Returns the output. Sends signals until the run ends, since a signal before the
-    expression has no effect."""
+    expression has no effect. It does not send the next one soon, which would interrupt what follows on a busy machine."""
     ran = subprocess.Popen([lisp.path, *lisp.options], stdin=subprocess.PIPE, stdout=subprocess.PIPE, stderr=subprocess.PIPE)
     ran.stdin.write(("(car 1)\n%s\n(+ 1 2)\n" % endless).encode())
     ran.stdin.close()
     first = ran.stderr.readline()
-    while ran.poll() is None:
-        ran.send_signal(signal.SIGINT)
+    for _ in range(SIGNALS):
         time.sleep(0.1)
+        ran.send_signal(signal.SIGINT)
+        try:
+            ran.wait(SECONDS_TO_END)
+            break
+        except subprocess.TimeoutExpired:
+            pass
+    else:
+        ran.kill()
+        ran.wait()
     return Outcome(ran.stdout.read(), first + ran.stderr.read(), ran.returncode)
 
 

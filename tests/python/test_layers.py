@@ -231,6 +231,17 @@ class LongArrays(unittest.TestCase):
         self.assertRaises(gcflip.NoField, row.put, 3, 4998, 1)
         self.assertEqual((row.length(0), self.heap.look(2), self.heap.look(29)), (2, None, None))
 
+    def test_a_refused_push_keeps_the_array(self):
+        """The array takes more room before an element is written. A root that does not exist is refused before that."""
+        for length in (0, 8, PART, 2 * PART):
+            self.arrays.new_array(0, KIND, length)
+            for i in range(length):
+                values.set_int(self.heap, 1, i)
+                self.arrays.put(0, i, 1)
+            with self.assertRaises(gcflip.OutOfRange):
+                self.arrays.push(0, 32)
+            self.check_row(length, 0)
+
     def test_full(self):
         with Heap(10000) as heap:
             row = Arrays(heap, 0, OWN)

@@ -278,6 +278,15 @@ class Roots(unittest.TestCase):
             heap.collect()
             self.assertEqual(heap.counts().free, 29999)
 
+    def test_a_heap_that_grew_has_room_at_once(self):
+        """The flip to a larger space leaves enough room. No other collection begins, whose memory may be refused."""
+        with Heap(200, extra_roots=5) as heap:
+            heap.growing(30000)
+            held = heap.make(1, 90)
+            flips = heap.stats().flips
+            more = heap.make(1, 150)
+            self.assertEqual((heap.counts().size, heap.stats().flips - flips, len(held), len(more)), (2 * 200 + 152, 1, 90, 150))
+
     def test_a_full_heap(self):
         with Heap(64, extra_roots=100) as heap:
             held = [heap.make(1, 1) for _ in range(21)]

@@ -89,6 +89,8 @@ class Arrays:
         """Adds the value of root `source` at the end of the array, which keeps its elements if the call fails. Raises Full also if it has MOST_ELEMENTS of them."""
         with self._forgetting():
             length = self.length(array)
+            # A root that does not exist is refused before the array takes a spine, since only a longer one has it.
+            self.heap.look(source)
             if length < PART and length == self._count(array):
                 fields = min(FIRST_ROOM if length < FIRST_ROOM // 2 else 2 * length, PART)
                 self._reserve(fields + HEADER)

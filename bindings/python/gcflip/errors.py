@@ -1,4 +1,5 @@
-"""The exceptions of the package. A call that raises one has changed nothing, except `put_number` and `put_nil` of a mutator, as they say."""
+"""The exceptions of the package. A call that raises one has changed nothing, except `put_number` and `put_nil` of a mutator, as they say, and calls that make
+room: these may have performed steps of the collector."""
 from __future__ import annotations
 
 import enum

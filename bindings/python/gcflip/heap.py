@@ -338,16 +338,15 @@ class Heap(quick.Quickened):
         checks, counted = self.flip_checks(), self._pool.counted
         return Stats(counted.objects, counted.words, checks.along + checks.whole, counted.steps, counted.copied, counted.longest, counted.full)
 
-    def _collect(self, pool: refs.RootPool) -> None:
-        """Performs a whole collection, after the open one if there is one, and lets the pace remember it."""
-        for _ in range(1 + self.counts().is_open):
-            while True:
-                work = self.work((1 << 32) - 1)
-                pool.counted.worked(work)
-                if work.last is Step.FLIPPED:
-                    break
-                if work.last is Step.NO_ROOM:
-                    self.give_up()
+    def _flip(self, pool: refs.RootPool) -> None:
+        """Ends the open collection by its flip, or performs a whole one if none is open, and lets the pace remember it."""
+        while True:
+            work = self.work((1 << 32) - 1)
+            pool.counted.worked(work)
+            if work.last is Step.FLIPPED:
+                break
+            if work.last is Step.NO_ROOM:
+                self.give_up()
         self.remember(pool.pace)
 
     def clear_roots(self, first: int, end: int) -> None:
@@ -685,7 +684,7 @@ class Heap(quick.Quickened):
 
     def raw_read(self, root: int, first: int, count: int) -> array.array[int]:
         """Returns the numbers in `count` fields of the raw object that the root refers to, from field `first` on. Raises NoObject if it refers to no raw object,
-        and NoField if the object has fewer fields."""
+        NoField if the object has fewer fields, and OutOfRange also for a count above 65535."""
         root, first, count = in_range((root, first, count), (*ROOTS["raw_read"][:2], ctypes.c_uint16))
         numbers = _zeros(count)
         self._turn.take(lambda: self._made_roots("raw_read", root, first, numbers.buffer_info()[0], count))

@@ -88,6 +88,15 @@ class RootPool:
             with contextlib.suppress(OutOfMemory, Busy):
                 heap.begin(min(2 * counts.size + words, self.most))
 
+    def wait(self, heap: Heap, words: int) -> None:
+        """Ends the open collection, or one that takes a larger space if the heap may grow. If that makes too little room, or if there is none, performs a whole
+        one. It begins no other, whose memory may be refused."""
+        self.grow(heap, words, True)
+        if heap.counts().is_open:
+            heap._flip(self)
+        if heap.room() < words:
+            heap._flip(self)
+
     def clear(self, heap: Heap) -> None:
         """Tries once more to clear each root that has to be cleared. Another thread may do the same."""
         for _ in range(len(self.uncleared)):
@@ -280,7 +289,6 @@ def made(heap: Heap, pool: RootPool, new: Callable[[int, int, int], None], kind:
             if turn == 2 or (turn == 1 and heap.counts().size >= pool.most):
                 pool.counted.full += 1
                 raise
-        pool.grow(heap, words, True)
-        heap._collect(pool)
+        pool.wait(heap, words)
     pool.counted.made(words)
     return ref

@@ -125,8 +125,8 @@ impl<'h> Arrays<'h> {
     ///
     /// # Errors
     ///
-    /// Returns the errors of [`Arrays::length`], `NoField` if the array has no such element, or `OutOfRange` if there is no such mutator. Then nothing
-    /// has changed.
+    /// Returns the errors of [`Arrays::length`], `NoField` if the array has no such element, or `OutOfRange` if there is no such root or mutator. Then
+    /// nothing has changed.
     pub fn put(&self, array: Place, i: u32, source: Place) -> Result<()> {
         self.forgetting(|| self.write(array, i, source, self.length(array)?))
     }
@@ -135,11 +135,13 @@ impl<'h> Arrays<'h> {
     ///
     /// # Errors
     ///
-    /// Returns the errors of [`Arrays::put`], `Full` if the array has [`MOST_ELEMENTS`] elements or the heap has no room after whole collections, or
+    /// Returns the errors of [`Arrays::length`], `OutOfRange` if there is no such root or mutator, `Full` if the array has [`MOST_ELEMENTS`] elements or the heap has no room after whole collections, or
     /// `NoMemory` if there is no room and a collection gets no memory. The array then has the same elements.
     pub fn push(&self, array: Place, source: Place) -> Result<()> {
         self.forgetting(|| {
             let length = self.length(array)?;
+            // A root that does not exist is refused before the array takes a spine, since only a longer one has it.
+            self.heap.look(source)?;
             if length < PART && length == self.count(array)? {
                 let wanted = if length < FIRST_ROOM / 2 { FIRST_ROOM } else { 2 * length };
                 self.reserve(wanted.min(PART) + HEADER)?;

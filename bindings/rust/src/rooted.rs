@@ -31,7 +31,7 @@
 //! pair.get_number(X).unwrap();
 //! ```
 
-use crate::heap::{words_of, Counts, Error, Heap, Options, Place, Result, Value};
+use crate::heap::{words_of, Counts, Error, Heap, Options, Place, Result, Step, Value};
 use crate::sys::Pace;
 use std::cell::{Cell, RefCell};
 use std::fmt;
@@ -202,19 +202,43 @@ impl Rooted {
             Err(error) => return Err(error),
         }
         if self.heap.room() < words {
-            self.grow(words, true)?;
-            self.collect()?;
+            self.wait(words)?;
         }
         // A collection that was open has ended in a space of the old size.
         if self.heap.room() < words && self.heap.counts().size < self.most {
-            self.grow(words, true)?;
-            self.collect()?;
+            self.wait(words)?;
         }
         if self.heap.room() < words {
             self.count(|stats| stats.full += 1);
             return Err(Error::Full);
         }
         Ok(())
+    }
+
+    /// Ends the open collection, or one that takes a larger space if the heap may grow. If that makes too little room, or if there is none, performs a whole
+    /// one. It begins no other, whose memory may be refused.
+    fn wait(&self, words: u32) -> Result<()> {
+        self.grow(words, true)?;
+        if self.heap.counts().is_open {
+            self.flip()?;
+        }
+        if self.heap.room() < words {
+            self.collect()?;
+        }
+        Ok(())
+    }
+
+    /// Ends the open collection by its flip.
+    fn flip(&self) -> Result<()> {
+        loop {
+            let work = self.heap.work(u32::MAX)?;
+            self.worked(work.steps, work.copied);
+            match work.last {
+                Some(Step::Flipped { .. }) => return self.heap.remember(&mut self.pace.borrow_mut()),
+                Some(Step::NoRoom) => self.heap.give_up()?,
+                _ => {}
+            }
+        }
     }
 
     /// Begins a collection with a larger space, if none is open and the heap may grow. If `now` is false, one has also to be due, and more than half of the heap in

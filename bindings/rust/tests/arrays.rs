@@ -118,6 +118,23 @@ fn arrays_refuse() -> Result<()> {
     Ok(())
 }
 
+/// The array takes more room before an element is written. A root that does not exist is refused before that.
+#[test]
+fn a_refused_push_keeps_the_array() -> Result<()> {
+    let heap = Heap::open(100_000, 1)?;
+    let arrays = Arrays::new(&heap, 0, OWN);
+    for length in [0, 8, PART, 2 * PART] {
+        arrays.new_array(ARRAY, KIND, length)?;
+        for i in 0..length {
+            heap.set_int(X, i.into())?;
+            arrays.put(ARRAY, i, X)?;
+        }
+        assert_eq!(arrays.push(ARRAY, Place(32)), Err(Error::OutOfRange));
+        check_row(&heap, &arrays, length, 0)?;
+    }
+    Ok(())
+}
+
 #[test]
 fn a_full_heap_keeps_the_array() -> Result<()> {
     let heap = Heap::open(10_000, 1)?;

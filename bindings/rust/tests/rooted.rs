@@ -97,6 +97,32 @@ fn a_heap_grows_if_it_may() -> Result<()> {
     Ok(())
 }
 
+/// Kinds with more fields than fit together into 200 words.
+struct Short;
+
+impl Kind for Short {
+    const KIND: u8 = 3;
+    const FIELDS: u16 = 90;
+}
+
+struct Long;
+
+impl Kind for Long {
+    const KIND: u8 = 4;
+    const FIELDS: u16 = 150;
+}
+
+/// One flip in the old size leaves too little room, and that of a larger space enough. No other collection begins, whose memory may be refused.
+#[test]
+fn a_heap_that_grew_has_room_at_once() -> Result<()> {
+    let heap = Rooted::open(200, 4)?.growing(30000);
+    let _held = heap.make::<Short>()?;
+    let flips = heap.stats().flips;
+    let _more = heap.make::<Long>()?;
+    assert_eq!((heap.counts().size, heap.stats().flips - flips), (2 * 200 + 152, 2));
+    Ok(())
+}
+
 #[test]
 fn a_root_keeps_its_object_alive_and_no_other_root_does() -> Result<()> {
     let heap = Rooted::open(64, 4)?;

@@ -128,7 +128,11 @@ fn kinds_have_names() {
 
 #[test]
 fn objects_fit_their_kinds() -> Result<()> {
-    let kinds = [Kind { name: "pair", fields: Some(2), numbers: &[] }, Kind { name: "", fields: Some(3), numbers: &[0, 2] }, Kind { name: "row", fields: None, numbers: &[70] }];
+    let kinds = [
+        Kind { name: "pair", fields: Some(2), numbers: &[] },
+        Kind { name: "", fields: Some(3), numbers: &[0, 2] },
+        Kind { name: "row", fields: None, numbers: &[70] },
+    ];
     let heap = Heap::open(1000, 1)?;
     let check = |kind, wanted| -> Result<()> {
         assert_eq!(fits(&heap, &kinds, X, kind)?, wanted);
