@@ -1,4 +1,4 @@
-//! What the libraries for C share: the numbers of answers and replies, what a look writes, numbers that are told, and boxes taken apart for handles.
+//! What the libraries for C share: the numbers of answers and replies, what calls write to C's variables, a test of places, and boxes taken apart for handles.
 #![tactic(auto)]
 
 mod answer;

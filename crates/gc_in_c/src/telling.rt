@@ -1,4 +1,4 @@
-//! Numbers that C's variables take, and tests of the numbers that C passes for roots.
+//! A number that a call writes to C's variable, if there is one, and a test of the places that C passes.
 
 ghost use Rattle.std.specs.Prelude.{◌<◌, ◌↔◌, IsTrue};
 ghost use Rattle.std.specs.List.{AllByRecursion};
@@ -19,7 +19,7 @@ pub fn tell_number(found: Option<u32>, number: &mut u32) -> u32
     }
 }
 
-/// Returns whether each of these numbers is the place of a root, if there are so many roots.
+/// Returns whether each of these places has a root, if there are `roots` roots.
 pub fn are_places(places: &[u32], roots: usize) -> bool
     ensures { IsTrue result ↔ AllByRecursion (λ p. p < roots) places.now }
 {
