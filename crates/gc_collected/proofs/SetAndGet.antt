@@ -17,7 +17,8 @@ use Rattle.gc_heap.specs.declared.taken.Fetched.TheVariants as fetches
 use Rattle.gc_model.specs.State.{State}
 use Rattle.gc_model.specs.Steps.{mutate}
 use Rattle.gc_model.proofs.Public.{get_set_same}
-use Rattle.gc_collected.specs.Values.{put_value_step, set_plain, value_of_plain}
+use Rattle.gc_collected.specs.Values.{put_value_step, value_of_plain}
+use Rattle.gc_collected.specs.Internal.Values.{set_plain}
 use Rattle.gc_collected.specs.declared.values.Plain.{Plain}
 use Rattle.gc_collected.specs.declared.values.Plain.TheVariants as plains
 use Rattle.gc_collected.proofs.ThroughSlot.{holding, put_held, root_held, then_holding}

@@ -2,7 +2,6 @@
 use Rattle.std.specs.Prelude.{ℕ, zero, suc, List, [], ◌∷◌, ◌++◌, length}
 use Rattle.gc_graph.specs.Graph.{Value}
 use Rattle.gc_graph.specs.Graph as graphs
-use Rattle.gc_graph.specs.declared.command.Op.{Op}
 use Rattle.gc_graph.specs.declared.command.Op.TheVariants.{Put}
 use Rattle.gc_graph.specs.declared.command.Op.TheVariants as ops
 use Rattle.gc_graph.specs.declared.reply.Reply.{Reply}
@@ -15,11 +14,6 @@ use Rattle.gc_collected.specs.declared.values.Plain.TheVariants.{Nil, Number}
 abbrev pub value_of_plain : Plain → Value
 value_of_plain Nil = graphs.Nil
 value_of_plain (Number n) = graphs.Num n
-
--- the command that sets the root at place p to this value
-abbrev pub set_plain : ℕ → Plain → Op
-set_plain p Nil = ops.Nil (root_at p)
-set_plain p (Number n) = ops.Num (root_at p) n
 
 -- the same state with these roots
 abbrev pub with_roots : State → List Value → State

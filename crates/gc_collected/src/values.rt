@@ -8,7 +8,8 @@ ghost use Rattle.gc_words.specs.Word.{value_of};
 ghost use Rattle.gc_heap.specs.Places.{root_at};
 ghost use Rattle.gc_model.specs.Steps.{mutate};
 ghost use Rattle.gc_roots.specs.Twins.{AskForLooks};
-ghost use Rattle.gc_collected.specs.Values.{clear_roots_step, put_value_step, set_plain, value_of_plain};
+ghost use Rattle.gc_collected.specs.Values.{clear_roots_step, put_value_step, value_of_plain};
+ghost use Rattle.gc_collected.specs.Internal.Values.{set_plain};
 ghost use Rattle.gc_collected.specs.Internal.CollectedHeap.{BelongsIfOpen, Fits, HasSpare, state_in};
 ghost use Rattle.gc_collected.specs.Internal.Follows.{Follows};
 

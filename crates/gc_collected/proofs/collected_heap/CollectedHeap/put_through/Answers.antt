@@ -6,7 +6,7 @@ use Rattle.gc_graph.specs.declared.reply.Reply.TheVariants.{NoObject}
 use Rattle.gc_heap.specs.Places.{root_at}
 use Rattle.gc_model.specs.State.{State}
 use Rattle.gc_model.specs.Steps.{mutate}
-use Rattle.gc_collected.specs.Values.{set_plain}
+use Rattle.gc_collected.specs.Internal.Values.{set_plain}
 use Rattle.gc_collected.proofs.SetAndGet.{set_itself, set_through}
 use Rattle.gc_collected.proofs.collected_heap.CollectedHeap.put_through.Goals as goal
 
