@@ -22,7 +22,6 @@ use Rattle.gc_monitor.specs.Claims.{CanMake}
 use Rattle.gc_monitor.specs.Events.{Made}
 use Rattle.gc_monitor.specs.Tables.{Tables}
 use Rattle.gc_copy.specs.Words.{CollectionWords, collection_in, state_of}
-use Rattle.gc_copy.proofs.Public.{idle_left}
 use Rattle.gc_collected.specs.Internal.Follows.{Follows}
 use Rattle.gc_collected.proofs.Monitor.Follows.{follows_closed, follows_new, follows_quiet}
 use Rattle.gc_collected.proofs.Monitor.Grown.{new_op}

@@ -1,7 +1,6 @@
 -- The field takes the value through no root, and the root takes it afterwards. If that root is the one with the object, it holds no object when the field is put.
 use Rattle.std.proofs.Common.{◌≡◌, ap, ◌∙◌, arith}
 use Rattle.gc_graph.specs.declared.command.Op.TheVariants.{Put}
-use Rattle.gc_graph.specs.declared.reply.Reply.{Reply}
 use Rattle.gc_graph.specs.declared.reply.Reply.TheVariants.{NoObject}
 use Rattle.gc_heap.specs.Places.{root_at}
 use Rattle.gc_model.specs.State.{State}
