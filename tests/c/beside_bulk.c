@@ -427,7 +427,7 @@ static void goes_on_later(gcflip_thread *thread)
     } while (gcflip_thread_try_safepoint(thread) == GCFLIP_PARKED);
 }
 
-static void safepoints_that_do_not_wait(void)
+static void safepoints_that_do_not_wait(uint32_t turns)
 {
     gcflip_thread *thread;
     gcflip_pace pace = gcflip_pace_default();
@@ -438,7 +438,7 @@ static void safepoints_that_do_not_wait(void)
     pace.least = 0;
     EXPECT(gcflip_thread_open(&thread, 1 << 14, EXTRA, &pace) == GCFLIP_DONE);
     EXPECT(gcflip_beside_new(gcflip_thread_mutator(thread), 0, 1, 1000) == GCFLIP_MADE);
-    for (uint32_t k = 0; k < 400000; k++) {
+    for (uint32_t k = 0; k < turns; k++) {
         uint32_t answer = gcflip_thread_try_safepoint(thread), made;
 
         EXPECT(answer == GCFLIP_DONE || answer == GCFLIP_PARKED || answer == GCFLIP_NOT_YET);
@@ -474,7 +474,8 @@ static void safepoints_that_do_not_wait(void)
     gcflip_thread_close(thread);
 }
 
-int main(void)
+/* An argument says how many turns the last part takes. */
+int main(int count, char **words)
 {
     expect_refused(GCFLIP_CLOSED);
     open_both(WORDS);
@@ -489,6 +490,6 @@ int main(void)
     refused_logs();
     EXPECT(blocks_in_use() == 0 && bytes_in_use() == 0);
     /* two threads allocate there, and the counts are not theirs */
-    safepoints_that_do_not_wait();
+    safepoints_that_do_not_wait(count > 1 ? (uint32_t)strtoul(words[1], NULL, 10) : 400000);
     return 0;
 }

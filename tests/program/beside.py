@@ -57,7 +57,7 @@ def sanitized(_program, folder):
                 path, why = built.build(["gcc", *words], name, [source, *built.archive()])
                 yield "%s with %s" % (name, kind), why or difference(done([path, *arguments], env=environment), Outcome())
     if has_valgrind("beside.c"):
-        for name, words in [("beside.c", []), ("beside_bulk.c", []), ("beside_refused.c", []), ("beside_addresses.c", []), ("beside_threads.c", ["2000", "3"]), ("beside_tables.c", ["10", "3"])]:
+        for name, words in [("beside.c", []), ("beside_bulk.c", ["100000"]), ("beside_refused.c", []), ("beside_addresses.c", []), ("beside_threads.c", ["2000", "3"]), ("beside_tables.c", ["10", "3"])]:
             path, why = built.build(["gcc"], name, built.archive())
             yield "%s by valgrind" % name, why or difference(done([*VALGRIND, path, *words]), Outcome())
 
