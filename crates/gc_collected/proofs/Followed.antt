@@ -22,6 +22,7 @@ use Rattle.gc_monitor.specs.Claims.{CanMake}
 use Rattle.gc_monitor.specs.Events.{Made}
 use Rattle.gc_monitor.specs.Tables.{Tables}
 use Rattle.gc_copy.specs.Words.{CollectionWords, collection_in, state_of}
+use Rattle.gc_copy.proofs.Public.{idle_left}
 use Rattle.gc_collected.specs.Internal.Follows.{Follows}
 use Rattle.gc_collected.proofs.Monitor.Follows.{follows_closed, follows_new, follows_quiet}
 use Rattle.gc_collected.proofs.Monitor.Grown.{new_op}
@@ -29,8 +30,8 @@ use Rattle.gc_collected.proofs.Monitor.Ran.{ran_one}
 use Rattle.gc_collected.specs.Internal.CollectedHeap.{BelongsIfOpen, Fits}
 use Rattle.gc_collected.specs.Internal.KnownRoots.{KnowsRoots}
 use Rattle.gc_collected.specs.declared.known.KnownRoots.{KnownRoots}
-use Rattle.gc_collected.proofs.Marks.{forgetting}
-use Rattle.gc_collected.proofs.OtherCommands.{SetsSlot, it_belongs, performed, slot_set}
+use Rattle.gc_collected.proofs.Marks.{SetsPlain, forgetting}
+use Rattle.gc_collected.proofs.OtherCommands.{SetsSlot, it_belongs, performed, plain_set, slot_set}
 
 no_put : (g : Graph) (m : ℕ) (op : Op) (reply : Reply) → ¬ WritesField op → written g m op reply ≡ []
 no_put g m op reply none = grind (arith, common_steps)
@@ -54,6 +55,12 @@ closed heap new o m op reply t none few said = follows_closed (state_of heap (op
     is_none None n = refl
     is_none (Some c) n = absurd (n c refl)
 
+-- the same, of what the heap alone performs
+pub closed_put : (heap new : HeapWords) (o : Option CollectionWords) (m : ℕ) (op : Op) (reply : Reply) (t : Tables) → o ≡ None → words_taken op ≡ 0 → IsHeap heap → Performs heap m op reply new → Follows (state_of heap (option_map collection_in o)) t → Follows (state_of new (option_map collection_in o)) t
+closed_put heap new o m op reply t none few sound performs f =
+    closed heap new o m op reply t (λ c some. cc) few
+    (subst (λ o. mutate (state_of heap (option_map collection_in o)) m op ≡ (reply, state_of new (option_map collection_in o))) (sym none) (idle_left heap new m op reply sound performs)) f
+
 -- a `New` or a `NewRaw`, of which the monitor is told
 pub newly : (now : State) (heap new : HeapWords) (o : Option CollectionWords) (m : ℕ) (op : Op) (reply : Reply) (t after : Tables) (raw : Bool) (d : SlotName) (kind len : ℕ) → op ≡ new_op raw d kind len → state_of heap (option_map collection_in o) ≡ now → IfSome now.collection (IsOpened now)
     → IsSpaceGraph now.size now.heap.free now.heap.graph → IsHeap heap → ¬ WritesField op → Performs heap m op reply new → BelongsIfOpen heap o → IsSpaceGraph new.space.size (free_in new.space) (graph_in new) → image_of new ≡ linked_image (link_at new.space.words) new.space.size (graph_in new)
@@ -71,3 +78,10 @@ pub slot_followed : {C : Type 0} (now : State) (epoch : ℕ) (known : KnownRoots
     → (Fits epoch new o × KnowsRoots (forgetting known) (state_of new (option_map collection_in o)) × C) × (along ≡ true → Follows (state_of new (option_map collection_in o)) t)
 slot_followed now epoch known heap new o m op reply t along view less is_open sound performs none low few k =
     (slot_set now epoch known heap new o m op reply view less sound performs none low k.0, λ on. quiet now heap new o m op reply t view is_open sound none few performs (it_belongs epoch heap o (k.0).0) (k.1 on))
+
+-- one that sets it to nil or to a number
+pub plain_followed : {C : Type 0} (now : State) (epoch : ℕ) (known : KnownRoots) (heap new : HeapWords) (o : Option CollectionWords) (m : ℕ) (op : Op) (reply : Reply) (t : Tables) (along : Bool) → state_of heap (option_map collection_in o) ≡ now → m < now.mutators → IfSome now.collection (IsOpened now)
+    → IsHeap heap → Performs heap m op reply new → ¬ WritesField op → SetsPlain op → SetsSlot op → words_taken op ≡ 0 → (Fits epoch heap o × KnowsRoots known (state_of heap (option_map collection_in o)) × C) × (along ≡ true → Follows (state_of heap (option_map collection_in o)) t)
+    → (Fits epoch new o × KnowsRoots known (state_of new (option_map collection_in o)) × C) × (along ≡ true → Follows (state_of new (option_map collection_in o)) t)
+plain_followed now epoch known heap new o m op reply t along view less is_open sound performs none plain low few k =
+    (plain_set now epoch known heap new o m op reply view less sound performs none plain low k.0, λ on. quiet now heap new o m op reply t view is_open sound none few performs (it_belongs epoch heap o (k.0).0) (k.1 on))

@@ -25,7 +25,6 @@ pub mod Public
 mod Referred
 mod Reserved
 mod Rooted
-mod SetAndGet
 mod Shown
 mod Runs
 mod RunsKnow

@@ -45,7 +45,7 @@ set_own (x ∷ vs) (suc p) = ap (λ ws. x ∷ ws) (set_own vs p)
 root_left : (vs : List Value) (p q : ℕ) (v : Value) → q ≢ p → unwrap_or (slice_get (slice_set vs p v) q) Nil ≡ unwrap_or (slice_get vs q) Nil
 root_left vs p q v other = ap (λ o. unwrap_or o Nil) (get_set_other vs p q v other)
 
-pub root_held : (vs : List Value) (p : ℕ) (v : Value) → p < length vs → unwrap_or (slice_get (slice_set vs p v) p) Nil ≡ v
+root_held : (vs : List Value) (p : ℕ) (v : Value) → p < length vs → unwrap_or (slice_get (slice_set vs p v) p) Nil ≡ v
 root_held vs p v within = ap (λ o. unwrap_or o Nil) (get_set_same vs p v within)
 
 pub held_again : (s : State) (p : ℕ) (v w : Value) → holding (holding s p v) p w ≡ holding s p w

@@ -1,22 +1,21 @@
-//! The commands of mutators, by slots. Each is the command on the roots at the places of its slots.
+//! The commands of mutators.
 
 ghost use Rattle.std.specs.Prelude.{◌≡◌};
 
+use crate::barrier::{new_in, put, put_in, reserve_in};
 use crate::collected_heap::CollectedHeap;
-use crate::values::Plain;
+use gc_copy::{commands_leave_collections, heaps_have_addresses_as_names};
 use gc_graph::{NoMemory, Number, Op, Reply, Slot};
 use gc_heap::Fetched;
 
 impl CollectedHeap {
-    ghost use Rattle.std.specs.Prelude.{◌≡◌, ◌<◌, IfOk, OnErr, IsSome, length};
-    ghost use Rattle.gc_graph.specs.Slots.{place, roots_of};
+    ghost use Rattle.std.specs.Prelude.{◌≡◌, ◌<◌, IfOk, OnErr, IsSome};
     ghost use Rattle.gc_model.specs.Steps.{mutate, WritesField};
     ghost use Rattle.gc_graph.specs.declared.command.Op.{Op};
     ghost use Rattle.gc_collected.specs.CollectedHeap.{Fetches};
 
     /// Performs mutator `m`'s command. While a collection is open, a field that the command wrote is logged (the
     /// write barrier). Only a `put` while a collection is open can return `NoMemory`; the heap is then unchanged.
-    #[tactic(auto, using(crate::proofs::Together::logged_none))]
     pub fn mutate(&mut self, m: u8, op: &Op) -> Result<Reply, NoMemory>
         requires { m < self.old.core.mutators }
         ensures step { IfOk result (λ reply. mutate self.old.core m op.now ≡ (reply, self.new.core)) }
@@ -33,11 +32,7 @@ impl CollectedHeap {
             Op::Num { d, n } => Ok(self.num(m, d, n)),
             Op::Nil { d } => Ok(self.nil(m, d)),
             Op::Move { d, s } => Ok(self.move_slot(m, d, s)),
-            Op::Get { d, s, i } => Ok(self.get_root(
-                self.place(m, d),
-                self.place(m, s),
-                u32::from(i),
-            )),
+            Op::Get { d, s, i } => Ok(self.get(m, d, s, i)),
             Op::Put { s, i, t } => self.put(m, s, i, t),
             Op::Same { s, t } => Ok(self.same(m, s, t)),
             Op::Look { s } => Ok(self.look(m, s)),
@@ -47,7 +42,6 @@ impl CollectedHeap {
     /// Makes an object of this kind with `len` fields, all nil, and sets `d` to a reference to it. Returns `Made`, or
     /// `Full` if there is no room; then nothing has changed. Does not allocate.
     #[inline(always)]
-    #[tactic(auto, using(crate::proofs::Together::logged_none))]
     pub fn new_object(&mut self, m: u8, d: Slot, kind: u8, len: u16) -> Reply
         requires { m < self.old.core.mutators }
         ensures step { mutate self.old.core m (Op.New d kind len) ≡ (result, self.new.core) }
@@ -55,12 +49,23 @@ impl CollectedHeap {
         ensures beside { self.new.beside ≡ self.old.beside }
         ensures looks { self.new.roots_left ≡ self.old.roots_left }
     {
-        self.new_at_root(self.place(m, d), kind, len)
+        // Here the prover learns that the heap is sound, and the slot in range.
+        let _ = self.heap.space();
+        let _ = d.index();
+        self.known.slots = 0;
+        new_in(
+            &self.collection,
+            &mut self.heap,
+            &mut self.watch,
+            m,
+            d,
+            kind,
+            len,
+        )
     }
 
     /// Makes a raw object, as `new_object` makes an object. Its fields are plain numbers, all 0. Does not allocate.
     #[inline(always)]
-    #[tactic(auto, using(crate::proofs::Together::logged_none))]
     pub fn new_raw(&mut self, m: u8, d: Slot, kind: u8, len: u16) -> Reply
         requires { m < self.old.core.mutators }
         ensures step { mutate self.old.core m (Op.NewRaw d kind len) ≡ (result, self.new.core) }
@@ -68,12 +73,19 @@ impl CollectedHeap {
         ensures beside { self.new.beside ≡ self.old.beside }
         ensures looks { self.new.roots_left ≡ self.old.roots_left }
     {
-        self.new_raw_at_root(self.place(m, d), kind, len)
+        self.is_sound();
+        // Here the prover learns that the heap is sound, and the slot in range.
+        let _ = self.heap.space();
+        let _ = d.index();
+        heaps_have_addresses_as_names();
+        self.known.slots = 0;
+        let reply = self.heap.new_raw(m, d, kind, len);
+        self.watch.made(self.heap.space().words());
+        reply
     }
 
     /// Sets `d` to the number. Returns `Done`. Does not allocate.
     #[inline(always)]
-    #[tactic(auto, using(crate::proofs::Together::logged_none))]
     pub fn num(&mut self, m: u8, d: Slot, n: Number) -> Reply
         requires { m < self.old.core.mutators }
         ensures step { mutate self.old.core m (Op.Num d n) ≡ (result, self.new.core) }
@@ -81,12 +93,15 @@ impl CollectedHeap {
         ensures beside { self.new.beside ≡ self.old.beside }
         ensures looks { self.new.roots_left ≡ self.old.roots_left }
     {
-        self.num_root(self.place(m, d), n)
+        self.is_sound();
+        // Here the prover learns that the heap is sound, and the slot in range.
+        let _ = self.heap.space();
+        let _ = d.index();
+        self.heap.num(m, d, n)
     }
 
     /// Sets `d` to nil. Returns `Done`. Does not allocate.
     #[inline(always)]
-    #[tactic(auto, using(crate::proofs::Together::logged_none))]
     pub fn nil(&mut self, m: u8, d: Slot) -> Reply
         requires { m < self.old.core.mutators }
         ensures step { mutate self.old.core m (Op.Nil d) ≡ (result, self.new.core) }
@@ -94,12 +109,15 @@ impl CollectedHeap {
         ensures beside { self.new.beside ≡ self.old.beside }
         ensures looks { self.new.roots_left ≡ self.old.roots_left }
     {
-        self.nil_root(self.place(m, d))
+        self.is_sound();
+        // Here the prover learns that the heap is sound, and the slot in range.
+        let _ = self.heap.space();
+        let _ = d.index();
+        self.heap.nil(m, d)
     }
 
     /// Sets `d` to what `s` holds. Returns `Done`. Does not allocate.
     #[inline(always)]
-    #[tactic(auto, using(crate::proofs::Together::logged_none))]
     pub fn move_slot(&mut self, m: u8, d: Slot, s: Slot) -> Reply
         requires { m < self.old.core.mutators }
         ensures step { mutate self.old.core m (Op.Move d s) ≡ (result, self.new.core) }
@@ -107,13 +125,35 @@ impl CollectedHeap {
         ensures beside { self.new.beside ≡ self.old.beside }
         ensures looks { self.new.roots_left ≡ self.old.roots_left }
     {
-        self.copy_root(self.place(m, d), self.place(m, s))
+        self.is_sound();
+        // Here the prover learns that the heap is sound, and the slot in range.
+        let _ = self.heap.space();
+        let _ = d.index();
+        self.known.slots = 0;
+        self.heap.move_slot(m, d, s)
     }
 
-    /// Sets `d` to field `i` of the object that `s` refers to, as a `Get` does, but does not read an object that it found, so it returns no kind
-    /// and no length. Does not allocate.
+    /// Sets `d` to field `i` of the object that `s` refers to. Returns `Saw`, or else `NoObject` or `NoField`. Does not
+    /// allocate.
     #[inline(always)]
-    #[tactic(auto, using(crate::proofs::Together::logged_none))]
+    pub fn get(&mut self, m: u8, d: Slot, s: Slot, i: u16) -> Reply
+        requires { m < self.old.core.mutators }
+        ensures step { mutate self.old.core m (Op.Get d s i) ≡ (result, self.new.core) }
+        ensures mutators { self.new.core.mutators ≡ self.old.core.mutators }
+        ensures beside { self.new.beside ≡ self.old.beside }
+        ensures looks { self.new.roots_left ≡ self.old.roots_left }
+    {
+        self.is_sound();
+        // Here the prover learns that the heap is sound, and the slot in range.
+        let _ = self.heap.space();
+        let _ = d.index();
+        self.known.slots = 0;
+        self.heap.get(m, d, s, i)
+    }
+
+    /// Does what `get` does, but does not read an object that it found, so it returns no kind and no length. Does not
+    /// allocate.
+    #[inline(always)]
     pub fn fetch(&mut self, m: u8, d: Slot, s: Slot, i: u16) -> Fetched
         requires { m < self.old.core.mutators }
         ensures fetches { Fetches self.old.core m d s i result self.new.core }
@@ -121,7 +161,12 @@ impl CollectedHeap {
         ensures beside { self.new.beside ≡ self.old.beside }
         ensures looks { self.new.roots_left ≡ self.old.roots_left }
     {
-        self.fetch_root(self.place(m, d), self.place(m, s), u32::from(i))
+        self.is_sound();
+        // Here the prover learns that the heap is sound, and the slot in range.
+        let _ = self.heap.space();
+        let _ = d.index();
+        self.known.slots = 0;
+        self.heap.fetch(m, d, s, i)
     }
 
     /// Writes what `t` holds to field `i` of the object that `s` refers to. Returns `Done`, or else `NoObject`,
@@ -137,7 +182,14 @@ impl CollectedHeap {
         ensures beside { self.new.beside ≡ self.old.beside }
         ensures looks { self.new.roots_left ≡ self.old.roots_left }
     {
-        self.put_root(m, self.place(m, s), u32::from(i), self.place(m, t))
+        commands_leave_collections();
+        // Here the prover learns that the heap is sound.
+        let _ = self.heap.space();
+        let Some(collection) = &mut self.collection else {
+            return Ok(self.heap.put(m, s, i, t));
+        };
+        collection.reserve(m)?;
+        Ok(put(collection, &mut self.heap, &mut self.watch, m, s, i, t))
     }
 
     /// Performs a `num` and a `put` in one call: sets `t` to the number, and then writes it to field `i` of the object
@@ -160,13 +212,23 @@ impl CollectedHeap {
         ensures beside { self.new.beside ≡ self.old.beside }
         ensures looks { self.new.roots_left ≡ self.old.roots_left }
     {
-        self.put_through(
+        self.is_sound();
+        // Here the prover learns that the heap is sound, and the slot in range.
+        let _ = self.heap.space();
+        let _ = t.index();
+        let is_open = self.collection.is_some();
+        reserve_in(&mut self.collection, m, 1)?;
+        let _done = self.heap.num(m, t, n);
+        Ok(put_in(
+            &mut self.collection,
+            &mut self.heap,
+            &mut self.watch,
+            is_open,
             m,
-            self.place(m, s),
-            u32::from(i),
-            self.place(m, t),
-            &Plain::Number(n),
-        )
+            s,
+            i,
+            t,
+        ))
     }
 
     /// Performs a `nil` and a `put` in one call: sets `t` to nil, and then writes it to field `i` of the object that `s`
@@ -181,45 +243,44 @@ impl CollectedHeap {
         ensures beside { self.new.beside ≡ self.old.beside }
         ensures looks { self.new.roots_left ≡ self.old.roots_left }
     {
-        self.put_through(
+        self.is_sound();
+        // Here the prover learns that the heap is sound, and the slot in range.
+        let _ = self.heap.space();
+        let _ = t.index();
+        let is_open = self.collection.is_some();
+        reserve_in(&mut self.collection, m, 1)?;
+        let _done = self.heap.nil(m, t);
+        Ok(put_in(
+            &mut self.collection,
+            &mut self.heap,
+            &mut self.watch,
+            is_open,
             m,
-            self.place(m, s),
-            u32::from(i),
-            self.place(m, t),
-            &Plain::Nil,
-        )
+            s,
+            i,
+            t,
+        ))
     }
 
     /// Compares what `s` and `t` hold. Returns `Yes` or `No`. Changes nothing.
     #[inline(always)]
-    #[tactic(auto, using(crate::proofs::Together::logged_none))]
     pub fn same(&self, m: u8, s: Slot, t: Slot) -> Reply
         requires { m < self.now.core.mutators }
         ensures { mutate self.now.core m (Op.Same s t) ≡ (result, self.now.core) }
     {
-        self.same_root(self.place(m, s), self.place(m, t))
+        // Here the prover learns that the heap is sound.
+        let _ = self.heap.space();
+        self.heap.same(m, s, t)
     }
 
     /// Returns `Saw` with what `s` holds. Changes nothing.
     #[inline(always)]
-    #[tactic(auto, using(crate::proofs::Together::logged_none))]
     pub fn look(&self, m: u8, s: Slot) -> Reply
         requires { m < self.now.core.mutators }
         ensures { mutate self.now.core m (Op.Look s) ≡ (result, self.now.core) }
     {
-        self.look_root(self.place(m, s))
-    }
-
-    // Returns the place of mutator `m`'s slot in the list of roots.
-    #[inline(always)]
-    fn place(&self, m: u8, slot: Slot) -> u32
-        requires { m < self.now.core.mutators }
-        ensures place { result ≡ place slot m }
-        ensures slot { result < roots_of self.now.core.mutators }
-        ensures root { result < length self.now.core.heap.graph.roots }
-    {
-        // Here the prover learns how many roots there are.
-        let _ = self.root_places();
-        slot.place(m) as u32
+        // Here the prover learns that the heap is sound.
+        let _ = self.heap.space();
+        self.heap.look(m, s)
     }
 }

@@ -39,8 +39,6 @@ impl CollectedHeap {
         ensures mutators { self.new.core.mutators ≡ self.old.core.mutators }
         ensures beside { self.new.beside ≡ self.old.beside }
         ensures looks { AsksForLook d self.old.roots_left self.new.roots_left }
-        // A slot asks for no look.
-        ensures slots { d < roots_of self.old.core.mutators → self.new.roots_left ≡ self.old.roots_left }
         ensures full { result ≡ Reply.Full → self.new.roots_left ≡ self.old.roots_left }
     {
         // Here the prover learns that the heap is sound.
@@ -78,8 +76,6 @@ impl CollectedHeap {
         ensures mutators { self.new.core.mutators ≡ self.old.core.mutators }
         ensures beside { self.new.beside ≡ self.old.beside }
         ensures looks { AsksForLook d self.old.roots_left self.new.roots_left }
-        // A slot asks for no look.
-        ensures slots { d < roots_of self.old.core.mutators → self.new.roots_left ≡ self.old.roots_left }
         ensures full { result ≡ Reply.Full → self.new.roots_left ≡ self.old.roots_left }
     {
         self.is_sound();
@@ -101,8 +97,6 @@ impl CollectedHeap {
         ensures mutators { self.new.core.mutators ≡ self.old.core.mutators }
         ensures beside { self.new.beside ≡ self.old.beside }
         ensures looks { AsksForLook d self.old.roots_left self.new.roots_left }
-        // A slot asks for no look.
-        ensures slots { d < roots_of self.old.core.mutators → self.new.roots_left ≡ self.old.roots_left }
     {
         self.is_sound();
         // Here the prover learns that the heap is sound.
@@ -120,8 +114,6 @@ impl CollectedHeap {
         ensures mutators { self.new.core.mutators ≡ self.old.core.mutators }
         ensures beside { self.new.beside ≡ self.old.beside }
         ensures looks { AsksForLook d self.old.roots_left self.new.roots_left }
-        // A slot asks for no look.
-        ensures slots { d < roots_of self.old.core.mutators → self.new.roots_left ≡ self.old.roots_left }
     {
         self.is_sound();
         // Here the prover learns that the heap is sound.
@@ -140,8 +132,6 @@ impl CollectedHeap {
         ensures mutators { self.new.core.mutators ≡ self.old.core.mutators }
         ensures beside { self.new.beside ≡ self.old.beside }
         ensures looks { AsksForLook d self.old.roots_left self.new.roots_left }
-        // A slot asks for no look.
-        ensures slots { d < roots_of self.old.core.mutators → self.new.roots_left ≡ self.old.roots_left }
         ensures missed { HasMissed result → self.new.roots_left ≡ self.old.roots_left }
     {
         self.is_sound();
@@ -157,24 +147,6 @@ impl CollectedHeap {
         let fetched = self.heap.fetch_root(d, s, field);
         self.known.took_if(has_fetched(&fetched), d, slots);
         fetched
-    }
-
-    /// Sets root `d` to field `i` of the object that root `s` refers to. Returns `Saw` with what `d` then holds, or else `NoObject` or `NoField`. Does
-    /// not allocate.
-    #[inline(always)]
-    pub(crate) fn get_root(&mut self, d: u32, s: u32, i: u32) -> Reply
-        requires taker { d < length self.old.core.heap.graph.roots }
-        requires giver { s < length self.old.core.heap.graph.roots }
-        ensures step { mutate self.old.core 0 (Op.Get (root_at d) (root_at s) i) ≡ (result, self.new.core) }
-        ensures mutators { self.new.core.mutators ≡ self.old.core.mutators }
-        ensures beside { self.new.beside ≡ self.old.beside }
-        ensures slots { d < roots_of self.old.core.mutators → self.new.roots_left ≡ self.old.roots_left }
-    {
-        match self.fetch_root(d, s, i) {
-            Fetched::NoObject => Reply::NoObject,
-            Fetched::NoField => Reply::NoField,
-            _ => self.look_root(d),
-        }
     }
 
     /// Writes what root `t` holds to field `i` of the object that root `s` refers to, as mutator `m`'s `Put`. Returns `Done`, or else `NoObject`, `NoField`

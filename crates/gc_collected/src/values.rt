@@ -1,15 +1,13 @@
 //! Commands by places that set a root or a field to nil or to a number. No other root takes the value.
 
 ghost use Rattle.std.specs.Prelude.{ℕ, List, ◌≡◌, ◌<◌, ◌≤◌, ◌-◌, length, IfOk, OnErr, IsSome};
-ghost use Rattle.gc_graph.specs.Slots.{roots_of};
 ghost use Rattle.gc_graph.specs.declared.command.Op.{Op};
 ghost use Rattle.gc_words.specs.Closed.{IsRootWord};
 ghost use Rattle.gc_words.specs.Word.{value_of};
 ghost use Rattle.gc_heap.specs.Places.{root_at};
 ghost use Rattle.gc_model.specs.Steps.{mutate};
 ghost use Rattle.gc_roots.specs.Twins.{AskForLooks};
-ghost use Rattle.gc_collected.specs.Values.{clear_roots_step, put_value_step, value_of_plain};
-ghost use Rattle.gc_collected.specs.Internal.Values.{set_plain};
+ghost use Rattle.gc_collected.specs.Values.{clear_roots_step, value_of_plain, put_value_step};
 ghost use Rattle.gc_collected.specs.Internal.CollectedHeap.{BelongsIfOpen, Fits, HasSpare, state_in};
 ghost use Rattle.gc_collected.specs.Internal.Follows.{Follows};
 
@@ -39,8 +37,6 @@ impl CollectedHeap {
         ensures mutators { self.new.core.mutators ≡ self.old.core.mutators }
         ensures beside { self.new.beside ≡ self.old.beside }
         ensures looks { AskForLooks 1 self.old.roots_left self.new.roots_left }
-        // A slot asks for no look.
-        ensures slots { d < roots_of self.old.core.mutators → self.new.roots_left ≡ self.old.roots_left }
     {
         self.is_sound();
         // Here the prover learns that the heap is sound.
@@ -89,53 +85,6 @@ impl CollectedHeap {
             field_number(i),
             value,
         ))
-    }
-
-    /// Sets root `t` to nil or a number, and then performs mutator `m`'s `put_root` of it, in one call. Returns the reply to the `put_root`. Returns
-    /// `NoMemory` only while a collection is open; the heap is then unchanged.
-    #[inline(always)]
-    pub(crate) fn put_through(
-        &mut self,
-        m: u8,
-        s: u32,
-        i: u32,
-        t: u32,
-        value: &Plain,
-    ) -> Result<Reply, NoMemory>
-        requires mutator { m < self.old.core.mutators }
-        requires target { s < length self.old.core.heap.graph.roots }
-        requires giver { t < length self.old.core.heap.graph.roots }
-        ensures step { IfOk result (λ reply.
-            mutate (mutate self.old.core m (set_plain t value.now)).1 m (Op.Put (root_at s) i (root_at t)) ≡ (reply, self.new.core)) }
-        ensures refused { OnErr result (self.new ≡ self.old) }
-        ensures open { OnErr result (IsSome self.old.core.collection) }
-        ensures mutators { self.new.core.mutators ≡ self.old.core.mutators }
-        ensures beside { self.new.beside ≡ self.old.beside }
-        ensures slots { t < roots_of self.old.core.mutators → self.new.roots_left ≡ self.old.roots_left }
-    {
-        // Root `s` then refers to no object.
-        if s == t {
-            self.set_plain(t, value);
-            return Ok(Reply::NoObject);
-        }
-        let reply = self.put_plain(m, s, i, *value)?;
-        self.set_plain(t, value);
-        Ok(reply)
-    }
-
-    // Sets root `d` to nil or a number.
-    #[inline(always)]
-    fn set_plain(&mut self, d: u32, value: &Plain)
-        requires { d < length self.old.core.heap.graph.roots }
-        ensures step { (mutate self.old.core 0 (set_plain d value.now)).1 ≡ self.new.core }
-        ensures mutators { self.new.core.mutators ≡ self.old.core.mutators }
-        ensures beside { self.new.beside ≡ self.old.beside }
-        ensures slots { d < roots_of self.old.core.mutators → self.new.roots_left ≡ self.old.roots_left }
-    {
-        let _done = match value {
-            Plain::Nil => self.nil_root(d),
-            Plain::Number(n) => self.num_root(d, *n),
-        };
     }
 }
 

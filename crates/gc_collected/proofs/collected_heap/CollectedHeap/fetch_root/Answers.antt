@@ -76,9 +76,3 @@ pub returns-clause-missed : goal.returns-clause-missed
 returns-clause-missed c = λ missed.
     same_if c.has_fetched.result c.self.inside.collection c.self.inside.known c.took_if.new.self c.root_count-slots.result c.args.d (record { written = c.took_if.ensures.written; none = c.took_if.ensures.none }) (not_made c.has_fetched.result (λ found. c.has_fetched.ensures.found found missed))
     ∙ left_is c.self.view_is
-
--- here the root is no slot
-pub returns-clause-slots : goal.returns-clause-slots
-returns-clause-slots c = λ low.
-    let slots = c.root_count-slots.ensures ∙ ap roots_of (c.mutators.ensures.value ∙ ap (λ (s : State). s.mutators) (core_is c.self.view_is)) in
-    absurd (let high = c.if-d-slots.false in omega (arith, high, low, slots))

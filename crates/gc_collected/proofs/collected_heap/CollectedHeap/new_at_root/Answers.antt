@@ -50,9 +50,3 @@ invariant_of-self-2 c =
 pub returns-clause-looks : goal.returns-clause-looks
 returns-clause-looks c = subst (λ n. AsksForLook c.args.d n (roots_left_in c.self.inside.collection c.took_if.new.self.twins)) (left_is c.self.view_is)
     (asks_if c.has_made.result c.self.inside.collection c.self.inside.known c.took_if.new.self c.root_count-slots.result c.args.d (record { written = c.took_if.ensures.written; none = c.took_if.ensures.none }))
-
--- here the root is no slot
-pub returns-clause-slots : goal.returns-clause-slots
-returns-clause-slots c = λ low.
-    let slots = c.root_count-slots.ensures ∙ ap roots_of (c.mutators.ensures.value ∙ ap (λ (s : State). s.mutators) (core_is c.self.view_is)) in
-    absurd (let high = c.if-d-slots.false in omega (arith, high, low, slots))

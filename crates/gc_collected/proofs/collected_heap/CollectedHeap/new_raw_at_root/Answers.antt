@@ -15,7 +15,7 @@ use Rattle.gc_collected.proofs.ByPlace.{Known}
 use Rattle.gc_collected.proofs.Core.{core_is, left_is}
 use Rattle.gc_collected.proofs.Followed.{newly}
 use Rattle.gc_collected.proofs.OtherCommands.{it_belongs, mutated, said, still_fits}
-use Rattle.gc_collected.proofs.Unwritten.{StoredIf, asks_if, full_raw, known_if, not_made, same_if, stays_if}
+use Rattle.gc_collected.proofs.Unwritten.{StoredIf, asks_if, full_raw, known_if, not_made, same_if}
 use Rattle.gc_collected.proofs.collected_heap.CollectedHeap.new_raw_at_root.Goals as goal
 
 pub invariant_of-self : goal.invariant_of-self
@@ -57,10 +57,4 @@ returns-clause-looks c = subst (λ n. AsksForLook c.args.d n (roots_left_in c.se
 pub returns-clause-full : goal.returns-clause-full
 returns-clause-full c = λ full.
     same_if c.has_made.result c.self.inside.collection c.self.inside.known c.took_if.new.self c.root_count.result c.args.d (record { written = c.took_if.ensures.written; none = c.took_if.ensures.none }) (not_made c.has_made.result (λ made. c.has_made.ensures.made made full))
-    ∙ left_is c.self.view_is
-
-pub returns-clause-slots : goal.returns-clause-slots
-returns-clause-slots c = λ low.
-    let slots = c.root_count.ensures ∙ ap roots_of (c.mutators.ensures.value ∙ (c.new_raw_at_root-made.ensures.performs 0).mutators ∙ ap (λ (s : State). s.mutators) (core_is c.self.view_is)) in
-    stays_if c.has_made.result c.self.inside.collection c.self.inside.known c.took_if.new.self c.root_count.result c.args.d (record { written = c.took_if.ensures.written; none = c.took_if.ensures.none }) (subst (λ n. c.args.d < n) (sym slots) low)
     ∙ left_is c.self.view_is

@@ -10,7 +10,7 @@ use Rattle.gc_collected.specs.Internal.KnownRoots.{HasStored, roots_left_in}
 use Rattle.gc_roots.specs.Twins.{AskForLooks}
 use Rattle.gc_collected.proofs.ByPlace.{nil_root_known, root_followed}
 use Rattle.gc_collected.proofs.Core.{core_is, left_is}
-use Rattle.gc_collected.proofs.Marks.{nil_asks, stored_stays}
+use Rattle.gc_collected.proofs.Marks.{nil_asks}
 use Rattle.gc_collected.proofs.OtherCommands.{said}
 use Rattle.gc_collected.proofs.collected_heap.CollectedHeap.nil_root.Goals as goal
 
@@ -32,9 +32,3 @@ returns-clause-step c = said c.args.self.now.core c.self.inside.epoch c.self.ins
 pub returns-clause-looks : goal.returns-clause-looks
 returns-clause-looks c = subst (λ n. AskForLooks 1 n (roots_left_in c.self.inside.collection c.took_nil.new.self.twins)) (left_is c.self.view_is)
     (nil_asks c.self.inside.collection c.self.inside.known c.took_nil.new.self c.self.inside.known.slots c.root_count.result c.args.d c.took_nil.ensures)
-
-pub returns-clause-slots : goal.returns-clause-slots
-returns-clause-slots c = λ low.
-    stored_stays c.self.inside.collection c.self.inside.known c.took_nil.new.self c.self.inside.known.slots _ c.root_count.result c.args.d c.took_nil.ensures
-    (subst (λ n. c.args.d < n) (sym (c.root_count.ensures ∙ ap roots_of (c.mutators.ensures.value ∙ ap (λ (s : State). s.mutators) (core_is c.self.view_is)))) low)
-    ∙ left_is c.self.view_is

@@ -11,7 +11,7 @@ use Rattle.gc_collected.specs.Internal.KnownRoots.{HasStored, roots_left_in}
 use Rattle.gc_roots.specs.Twins.{AsksForLook}
 use Rattle.gc_collected.proofs.ByPlace.{plain_root_known, root_followed}
 use Rattle.gc_collected.proofs.Core.{core_is, left_is}
-use Rattle.gc_collected.proofs.Marks.{stored_asks, stored_stays}
+use Rattle.gc_collected.proofs.Marks.{stored_asks}
 use Rattle.gc_collected.proofs.OtherCommands.{said}
 use Rattle.gc_collected.proofs.collected_heap.CollectedHeap.num_root.Goals as goal
 
@@ -33,9 +33,3 @@ returns-clause-step c = said c.args.self.now.core c.self.inside.epoch c.self.ins
 pub returns-clause-looks : goal.returns-clause-looks
 returns-clause-looks c = subst (λ n. AsksForLook c.args.d n (roots_left_in c.self.inside.collection c.took_plain.new.self.twins)) (left_is c.self.view_is)
     (stored_asks c.self.inside.collection c.self.inside.known c.took_plain.new.self c.self.inside.known.slots c.root_count.result c.args.d c.took_plain.ensures)
-
-pub returns-clause-slots : goal.returns-clause-slots
-returns-clause-slots c = λ low.
-    stored_stays c.self.inside.collection c.self.inside.known c.took_plain.new.self c.self.inside.known.slots _ c.root_count.result c.args.d c.took_plain.ensures
-    (subst (λ n. c.args.d < n) (sym (c.root_count.ensures ∙ ap roots_of (c.mutators.ensures.value ∙ ap (λ (s : State). s.mutators) (core_is c.self.view_is)))) low)
-    ∙ left_is c.self.view_is
