@@ -773,7 +773,9 @@ static void kinds(void)
     EXPECT(hp_fits(&h, 2, 1));
     /* numbers: fields 0 and 2 of kind 2, in which nil and a reference are none */
     hp_new(&h, 2, 2, 3);
+    hp_put_int(&h, 2, 2, 5);
     EXPECT(!hp_fits(&h, 2, 2));
+    hp_new(&h, 2, 2, 3);
     hp_put_int(&h, 2, 0, 5);
     EXPECT(!hp_fits(&h, 2, 2));
     hp_put(&h, 2, 2, 1);

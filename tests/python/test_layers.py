@@ -118,6 +118,9 @@ class Values(unittest.TestCase):
         # Fields 0 and 2 of kind 1 hold numbers. None and a reference are none.
         self.heap.new(1, 0, 2)
         self.heap.new(0, 1, 3)
+        self.heap.put_number(0, 0, 2, 7)
+        self.check_fit(table, 1, False)
+        self.heap.new(0, 1, 3)
         self.heap.put_number(0, 0, 0, 7)
         self.check_fit(table, 1, False)
         self.heap.put(0, 0, 2, 1)

@@ -148,6 +148,9 @@ fn objects_fit_their_kinds() -> Result<()> {
     // Fields 0 and 2 of kind 1 hold numbers. Nil and a reference are none.
     heap.new_object(OBJECT, 0, 2)?;
     heap.new_object(X, 1, 3)?;
+    heap.put_number(0, X, 2, 7)?;
+    check(1, false)?;
+    heap.new_object(X, 1, 3)?;
     heap.put_number(0, X, 0, 7)?;
     check(1, false)?;
     heap.put(0, X, 2, OBJECT)?;
