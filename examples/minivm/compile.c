@@ -1,12 +1,92 @@
-/* The compiler: one pass over the text, without a tree. */
-#include "tokens.h"
+/* The compiler: from the text to codes in one pass, without a tree. */
+#include "minivm.h"
+
+#include <ctype.h>
 
 int32_t codes[MOST_CODES];
 function functions[MOST_FUNCTIONS];
 
-static int32_t code_count, function_count;
+static int32_t code_count, function_count, local_count;
 static char locals[MOST_LOCALS][MOST_NAME];
-static int32_t local_count;
+
+/* The text, and how far it is read. The token at which the compiler is; of a string it has no marks. */
+static const char *start, *at;
+static char token[4096];
+static size_t token_length;
+static enum { END, NUMBER, NAME, STRING, SIGN } sort;
+
+static _Noreturn void syntax_error(const char *what)
+{
+    int line = 1;
+    for (const char *p = start; p < at; p++)
+        line += *p == '\n';
+    fprintf(stderr, "minivm: line %d, at '%s': %s\n", line, token, what);
+    exit(2);
+}
+
+/* ---- Tokens */
+
+/* Adds to the token the letter at which the text is read, and those behind it that are in a name or a number. */
+static void take_letters(bool all)
+{
+    do {
+        if (token_length + 1 == sizeof token)
+            syntax_error("the word is too long");
+        token[token_length++] = *at++;
+        token[token_length] = 0;
+    } while (all && (isalnum((unsigned char)*at) || *at == '_'));
+}
+
+/* Moves to the next token. */
+static void next(void)
+{
+    while (isspace((unsigned char)*at) || *at == '#')
+        at += *at == '#' ? strcspn(at, "\n") : 1;
+    token[token_length = 0] = 0;
+    if (*at == 0) {
+        sort = END;
+    } else if (isalnum((unsigned char)*at) || *at == '_') {
+        sort = isdigit((unsigned char)*at) ? NUMBER : NAME;
+        take_letters(true);
+    } else if (*at == '"') {
+        sort = STRING;
+        for (at++; *at != '"';) {
+            if (*at == 0)
+                syntax_error("a string has no end");
+            take_letters(false);
+        }
+        at++;
+    } else {
+        bool may_be_two = strchr("=!<", *at) != NULL;
+        sort = SIGN;
+        take_letters(false);
+        if (may_be_two && *at == '=')
+            take_letters(false);
+    }
+}
+
+static bool sees(const char *text)
+{
+    return sort != STRING && strcmp(token, text) == 0;
+}
+
+static bool takes(const char *text)
+{
+    bool is = sees(text);
+    if (is)
+        next();
+    return is;
+}
+
+static void wants(const char *text)
+{
+    char what[32];
+    snprintf(what, sizeof what, "a %s is missing", text);
+    if (!takes(text))
+        syntax_error(what);
+}
+
+/* ---- Names and codes */
 
 static int32_t emit(int32_t code)
 {
@@ -16,10 +96,36 @@ static int32_t emit(int32_t code)
     return code_count++;
 }
 
-/* Lets the jump whose target is at this place lead to the next code. */
-static void land(int32_t place)
+/* Emits a code with an operand. Returns the place of the operand. */
+static int32_t emit_with(enum code code, int32_t operand)
 {
-    codes[place] = code_count;
+    emit(code);
+    return emit(operand);
+}
+
+/* Moves behind a name, and copies it. */
+static void take_name(char *name)
+{
+    if (token_length >= MOST_NAME)
+        syntax_error("a name has at most 31 letters");
+    memcpy(name, token, token_length + 1);
+    next();
+}
+
+static void new_local(const char *name)
+{
+    if (local_count == MOST_LOCALS)
+        syntax_error("too many variables");
+    memcpy(locals[local_count++], name, MOST_NAME);
+}
+
+/* Returns the number of the variable, or -1 if there is none. */
+static int32_t local_named(const char *name)
+{
+    int32_t i = local_count - 1;
+    while (i >= 0 && strcmp(locals[i], name) != 0)
+        i--;
+    return i;
 }
 
 static int32_t function_named(const char *name)
@@ -29,30 +135,16 @@ static int32_t function_named(const char *name)
             return i;
     if (function_count == MOST_FUNCTIONS)
         syntax_error("too many functions");
-    copy_name(functions[function_count].name, name);
     functions[function_count].start = -1;
+    memcpy(functions[function_count].name, name, MOST_NAME);
     return function_count++;
 }
 
-static int32_t local_named(const char *name)
-{
-    int32_t i = local_count - 1;
-    while (i >= 0 && strcmp(locals[i], name) != 0)
-        i--;
-    return i;
-}
-
-static void new_local(const char *name)
-{
-    if (local_count == MOST_LOCALS)
-        syntax_error("too many variables");
-    copy_name(locals[local_count++], name);
-}
+/* ---- Expressions */
 
 static void expression(int level);
 
-/* Compiles expressions up to the end of their list, which is the token `end`. Returns how many there are, and emits `each` behind each one, unless it is
- * negative. */
+/* Compiles expressions up to the sign that ends their list. Returns how many there are, and emits `each` behind each one, unless it is negative. */
 static uint32_t expressions(const char *end, int32_t each)
 {
     uint32_t count = 0;
@@ -76,11 +168,11 @@ static void call(const char *name)
         enum code code;
         uint32_t arguments;
     } known[] = {{"len", LENGTH, 1}, {"push", PUSH, 2}, {"str", SHOW, 1}, {"print", PRINT, 1}};
+    char argument[MOST_NAME];
     if (strcmp(name, "pcall") == 0) {
-        emit(GUARDED_CALL);
-        emit(function_named(token));
-        next_token();
+        take_name(argument);
         wants(")");
+        emit_with(GUARDED_CALL, function_named(argument));
         return;
     }
     uint32_t count = expressions(")", -1);
@@ -89,12 +181,9 @@ static void call(const char *name)
             if (known[i].arguments != count)
                 syntax_error("another number of arguments");
             emit(known[i].code);
-            if (known[i].code == PRINT)
-                emit(NIL);
             return;
         }
-    emit(CALL);
-    emit(function_named(name));
+    emit_with(CALL, function_named(name));
     emit((int32_t)count);
 }
 
@@ -102,48 +191,40 @@ static void call(const char *name)
 static void named(void)
 {
     char name[MOST_NAME];
-    copy_name(name, token);
-    next_token();
-    if (strcmp(name, "nil") == 0) {
+    take_name(name);
+    if (strcmp(name, "nil") == 0)
         emit(NIL);
-    } else if (strcmp(name, "true") == 0) {
+    else if (strcmp(name, "true") == 0)
         emit(TRUE);
-    } else if (strcmp(name, "false") == 0) {
+    else if (strcmp(name, "false") == 0)
         emit(FALSE);
-    } else if (takes("(")) {
+    else if (takes("("))
         call(name);
-    } else {
-        int32_t index = local_named(name);
-        if (index < 0)
-            syntax_error("there is no such variable");
-        emit(GET);
-        emit(index);
-    }
-}
-
-static void constant(void)
-{
-    uint32_t place = vm.stack.top;
-    text_new(hp_push(&vm), token, token_length);
-    emit(CONSTANT);
-    emit((int32_t)place);
-    next_token();
+    else if (local_named(name) >= 0)
+        emit_with(GET, local_named(name));
+    else
+        syntax_error("there is no such variable");
 }
 
 static void primary(void)
 {
-    if (token_sort == NUMBER) {
-        emit(INTEGER);
-        emit(number_of_token());
-        next_token();
-    } else if (token_sort == STRING) {
-        constant();
+    if (sort == NUMBER) {
+        long long number = strtoll(token, NULL, 10);
+        if (token_length > 10 || number > INT32_MAX || strspn(token, "0123456789") != token_length)
+            syntax_error("a number in the text is at most 2147483647");
+        emit_with(INTEGER, (int32_t)number);
+        next();
+    } else if (sort == STRING) {
+        emit_with(CONSTANT, (int32_t)vm.stack.top);
+        text_new(hp_push(&vm), token, token_length);
+        next();
+    } else if (sort == NAME) {
+        named();
     } else if (takes("(")) {
         expression(0);
         wants(")");
     } else if (takes("-")) {
-        emit(INTEGER);
-        emit(0);
+        emit_with(INTEGER, 0);
         primary();
         emit(SUBTRACT);
     } else if (takes("!")) {
@@ -155,8 +236,6 @@ static void primary(void)
     } else if (takes("{")) {
         wants("}");
         emit(NEW_TABLE);
-    } else if (token_sort == NAME) {
-        named();
     } else {
         syntax_error("an expression is missing");
     }
@@ -166,7 +245,6 @@ static void primary(void)
         if (takes("=")) {
             expression(0);
             emit(SET_INDEX);
-            emit(NIL);
             return;
         }
         emit(INDEX);
@@ -200,6 +278,8 @@ static void expression(int level)
     }
 }
 
+/* ---- Statements */
+
 static void statement(void);
 
 static void block(void)
@@ -215,38 +295,39 @@ static void block(void)
 static void if_statement(void)
 {
     expression(0);
-    emit(JUMP_IF_FALSE);
-    int32_t skip = emit(0);
+    int32_t skip = emit_with(JUMP_IF_FALSE, 0);
     block();
     if (takes("else")) {
-        emit(JUMP);
-        int32_t end = emit(0);
-        land(skip);
+        int32_t end = emit_with(JUMP, 0);
+        codes[skip] = code_count;
         block();
-        land(end);
-    } else {
-        land(skip);
+        skip = end;
     }
+    codes[skip] = code_count;
 }
 
 static void while_statement(void)
 {
-    int32_t start = code_count;
+    int32_t again = code_count;
     expression(0);
-    emit(JUMP_IF_FALSE);
-    int32_t end = emit(0);
+    int32_t end = emit_with(JUMP_IF_FALSE, 0);
     block();
-    emit(JUMP);
-    emit(start);
-    land(end);
+    emit_with(JUMP, again);
+    codes[end] = code_count;
+}
+
+/* Returns whether one = follows the token. */
+static bool assignment_follows(void)
+{
+    const char *p = at + strspn(at, " \t\r\n");
+    return p[0] == '=' && p[1] != '=';
 }
 
 static void statement(void)
 {
     char name[MOST_NAME];
     if (takes("let")) {
-        copy_name(name, token);
-        next_token();
+        take_name(name);
         wants("=");
         expression(0);
         new_local(name); /* its value stays on the stack */
@@ -260,13 +341,12 @@ static void statement(void)
         else
             expression(0);
         emit(RETURN);
-    } else if (token_sort == NAME && local_named(token) >= 0 && assignment_follows()) {
+    } else if (sort == NAME && local_named(token) >= 0 && assignment_follows()) {
         int32_t index = local_named(token);
-        next_token();
+        next();
         wants("=");
         expression(0);
-        emit(SET);
-        emit(index);
+        emit_with(SET, index);
     } else {
         expression(0);
         emit(POP);
@@ -276,21 +356,21 @@ static void statement(void)
 /* Compiles a function behind the word fn. */
 static void function_text(void)
 {
-    int32_t index = function_named(token);
-    if (functions[index].start >= 0)
+    char name[MOST_NAME];
+    take_name(name);
+    function *f = &functions[function_named(name)];
+    if (f->start >= 0)
         syntax_error("there are two such functions");
-    next_token();
     wants("(");
-    local_count = 0;
-    while (token_sort == NAME) {
-        new_local(token);
-        next_token();
+    for (local_count = 0; sort == NAME;) {
+        take_name(name);
+        new_local(name);
         if (!takes(","))
             break;
     }
     wants(")");
-    functions[index].arity = (uint32_t)local_count;
-    functions[index].start = code_count;
+    f->arity = (uint32_t)local_count;
+    f->start = code_count;
     block();
     emit(NIL);
     emit(RETURN);
@@ -298,13 +378,15 @@ static void function_text(void)
 
 int32_t compile(const char *text)
 {
-    begin_tokens(text);
+    static char name[MOST_NAME] = "the program";
+    start = at = text;
+    next();
     while (takes("fn"))
         function_text();
-    int32_t main_function = function_named("the program");
+    int32_t main_function = function_named(name);
     local_count = 0;
     functions[main_function].start = code_count;
-    while (token_sort != END)
+    while (sort != END)
         statement();
     emit(NIL);
     emit(RETURN);

@@ -71,7 +71,7 @@ static int64_t integer_in(hp_root s, const char *sign)
 static bool is_true(hp_root s)
 {
     hp_value value = hp_look(&vm, s);
-    return value.type != HP_NIL && (value.type != HP_SPECIAL || value.special != FALSE_VALUE);
+    return value.type != HP_NIL && (value.type != HP_SPECIAL || value.special);
 }
 
 /* Returns the index that s holds, which is below the length of the array. */
@@ -85,56 +85,49 @@ static uint32_t index_in(hp_root array, hp_root s)
     return (uint32_t)index;
 }
 
-/* ---- Instructions */
+/* ---- Instructions. Each takes its operands from the stack, and leaves its result there */
 
-/* Returns whether the product lies between -2^61 and 2^61. */
-static bool has_product(int64_t x, int64_t y)
+static inline void arithmetic(enum code code, const char *sign)
 {
-    uint64_t a = (uint64_t)(x < 0 ? -x : x), b = (uint64_t)(y < 0 ? -y : y);
-    return a == 0 || b <= ((uint64_t)1 << 61) / a;
-}
-
-/* Replaces the two operands by the result. */
-static void arithmetic(enum code code, const char *sign)
-{
-    int64_t y = integer_in(top(0), sign), x = integer_in(top(1), sign), result = 0;
-    bool fits = true;
+    int64_t y = integer_in(top(0), sign), x = integer_in(top(1), sign), result;
+    bool is_long = false;
     if ((code == DIVIDE || code == REMAINDER) && y == 0)
         fail("%s: division by 0", sign);
     switch (code) {
     case ADD: result = x + y; break;
     case SUBTRACT: result = x - y; break;
-    case MULTIPLY: fits = has_product(x, y); result = fits ? x * y : 0; break;
+    case MULTIPLY: is_long = __builtin_mul_overflow(x, y, &result); break;
     case DIVIDE: result = x / y; break;
     default: result = x % y; break;
     }
-    if (!fits || result < HP_LEAST_INT || result > HP_MOST_INT)
+    if (is_long || result < HP_LEAST_INT || result > HP_MOST_INT)
         fail("%s: the result has more than 62 bits", sign);
-    hp_set_int(&vm, top(1), result);
+    hp_drop(&vm, 1);
+    hp_set_int(&vm, top(0), result);
+}
+
+static void join(void)
+{
+    text_join(top(1), top(1), top(0));
     hp_drop(&vm, 1);
 }
 
-static void add(void)
+/* Answers with a truth value in place of so many operands. If a jump follows, it is made at once. Returns the next code. */
+static inline int32_t answer(uint32_t operands, bool is, int32_t at)
 {
-    if (hp_is(&vm, top(1), TEXT) && hp_is(&vm, top(0), TEXT)) {
-        text_join(top(1), top(1), top(0));
-        hp_drop(&vm, 1);
-    } else {
-        arithmetic(ADD, "+");
+    if (codes[at] == JUMP_IF_FALSE) {
+        hp_drop(&vm, operands);
+        return is ? at + 2 : codes[at + 1];
     }
-}
-
-/* Replaces `operands` operands by a truth value. */
-static void answer(uint32_t operands, bool is)
-{
     hp_drop(&vm, operands - 1);
-    hp_set_special(&vm, top(0), is ? TRUE_VALUE : FALSE_VALUE);
+    hp_set_special(&vm, top(0), is);
+    return at;
 }
 
-static void compare(bool or_equal, const char *sign)
+static int32_t less(bool or_equal, const char *sign, int32_t at)
 {
     int64_t y = integer_in(top(0), sign), x = integer_in(top(1), sign);
-    answer(2, x < y || (or_equal && x == y));
+    return answer(2, x < y || (or_equal && x == y), at);
 }
 
 static void get_element(void)
@@ -146,13 +139,15 @@ static void get_element(void)
     hp_drop(&vm, 1);
 }
 
+/* Its result is nil. */
 static void set_element(void)
 {
     if (hp_is(&vm, top(2), TABLE))
         table_set(top(2), top(1), top(0));
     else
         hp_array_put(&vm, top(2), index_in(top(2), top(1)), top(0));
-    hp_drop(&vm, 3);
+    hp_drop(&vm, 2);
+    hp_set_nil(&vm, top(0));
 }
 
 static void push_element(void)
@@ -168,23 +163,7 @@ static void length(void)
     hp_value value = hp_look(&vm, top(0));
     if (value.type < HP_OBJECT)
         fail("len: %s has no length", name_of(top(0)));
-    hp_set_int(&vm, top(0), value.kind == TEXT ? (int64_t)text_length(top(0)) : hp_field(&vm, top(0), 0).integer);
-}
-
-static void print_value(hp_root s)
-{
-    hp_value value = hp_look(&vm, s);
-    if (value.type == HP_INT)
-        printf("%" PRId64, value.integer);
-    else if (value.type == HP_SPECIAL)
-        printf(value.special == TRUE_VALUE ? "true" : "false");
-    else if (value.type == HP_RAW)
-        text_print(s);
-    else if (value.type == HP_OBJECT)
-        printf("%s of %" PRId64, name_of(s), hp_field(&vm, s, 0).integer);
-    else
-        printf("nil");
-    putchar('\n');
+    hp_set_int(&vm, top(0), value.kind == TEXT ? hp_bytes_length(&vm, top(0)) : hp_field(&vm, top(0), 0).integer);
 }
 
 /* Replaces an integer by its digits. */
@@ -195,9 +174,39 @@ static void show(void)
     text_new(top(0), digits, (size_t)count);
 }
 
+static void print_text(hp_root s)
+{
+    char bytes[4096];
+    uint32_t length = hp_bytes_length(&vm, s), some;
+    for (uint32_t at = 0; at < length; at += some) {
+        some = length - at < sizeof bytes ? length - at : sizeof bytes;
+        hp_bytes_read(&vm, s, at, bytes, some);
+        fwrite(bytes, 1, some, stdout);
+    }
+}
+
+/* Its result is nil. */
+static void print(void)
+{
+    hp_value value = hp_look(&vm, top(0));
+    if (value.type == HP_INT)
+        printf("%" PRId64, value.integer);
+    else if (value.type == HP_SPECIAL)
+        printf(value.special ? "true" : "false");
+    else if (value.type == HP_RAW)
+        print_text(top(0));
+    else if (value.type == HP_OBJECT)
+        printf("%s of %" PRId64, name_of(top(0)), hp_field(&vm, top(0), 0).integer);
+    else
+        printf("nil");
+    putchar('\n');
+    hp_set_nil(&vm, top(0));
+}
+
 /* ---- Calls and errors */
 
-static void enter(int32_t called, int32_t back, uint32_t arguments, bool guarded)
+/* Calls a function, whose arguments are at the top. Returns its first code. */
+static int32_t enter(int32_t called, int32_t back, uint32_t arguments, bool guarded)
 {
     const function *f = &functions[called];
     if (f->arity != arguments)
@@ -212,17 +221,16 @@ static void enter(int32_t called, int32_t back, uint32_t arguments, bool guarded
         calls = more;
         call_room = room;
     }
-    calls[call_count] = (call){vm.stack.top - arguments, back, guarded};
-    call_count++;
+    calls[call_count++] = (call){vm.stack.top - arguments, back, guarded};
+    return f->start;
 }
 
 /* Leaves the function, whose result is at the top. Returns the code behind its call. */
 static int32_t leave(void)
 {
-    call left = calls[call_count - 1];
+    call left = calls[--call_count];
     hp_copy(&vm, HP_STACK(left.base), top(0));
     hp_drop(&vm, vm.stack.top - left.base - 1);
-    call_count--;
     return left.back;
 }
 
@@ -233,7 +241,8 @@ static int32_t unwind(void)
         call_count--;
     if (call_count == 0)
         return -1;
-    hp_drop(&vm, vm.stack.top - calls[call_count - 1].base);
+    call_count--;
+    hp_drop(&vm, vm.stack.top - calls[call_count].base);
     for (hp_root r = 0; r < WORK_REGISTERS; r++)
         hp_set_nil(&vm, r);
     hp_push(&vm);
@@ -242,7 +251,6 @@ static int32_t unwind(void)
     else
         text_new(top(0), error_text, strlen(error_text));
     lacks_room = false;
-    call_count--;
     return calls[call_count].back;
 }
 
@@ -255,33 +263,32 @@ static void execute(int32_t at)
         case CONSTANT: hp_copy(&vm, hp_push(&vm), HP_STACK(codes[at++])); break;
         case INTEGER: hp_set_int(&vm, hp_push(&vm), codes[at++]); break;
         case NIL: hp_set_nil(&vm, hp_push(&vm)); break;
-        case TRUE: hp_set_special(&vm, hp_push(&vm), TRUE_VALUE); break;
-        case FALSE: hp_set_special(&vm, hp_push(&vm), FALSE_VALUE); break;
+        case TRUE: hp_set_special(&vm, hp_push(&vm), true); break;
+        case FALSE: hp_set_special(&vm, hp_push(&vm), false); break;
         case GET: hp_copy(&vm, hp_push(&vm), local(codes[at++])); break;
         case SET: hp_copy(&vm, local(codes[at++]), top(0)); hp_drop(&vm, 1); break;
         case POP: hp_drop(&vm, 1); break;
-        case ADD: add(); break;
-        case SUBTRACT: arithmetic(code, "-"); break;
-        case MULTIPLY: arithmetic(code, "*"); break;
-        case DIVIDE: arithmetic(code, "/"); break;
-        case REMAINDER: arithmetic(code, "%"); break;
-        case LESS: compare(false, "<"); break;
-        case AT_MOST: compare(true, "<="); break;
-        case EQUAL: answer(2, values_equal(top(1), top(0))); break;
-        case UNEQUAL: answer(2, !values_equal(top(1), top(0))); break;
-        case NOT: answer(1, !is_true(top(0))); break;
+        case ADD: hp_is(&vm, top(0), TEXT) && hp_is(&vm, top(1), TEXT) ? join() : arithmetic(ADD, "+"); break;
+        case SUBTRACT: arithmetic(SUBTRACT, "-"); break;
+        case MULTIPLY: arithmetic(MULTIPLY, "*"); break;
+        case DIVIDE: arithmetic(DIVIDE, "/"); break;
+        case REMAINDER: arithmetic(REMAINDER, "%"); break;
+        case LESS: at = less(false, "<", at); break;
+        case AT_MOST: at = less(true, "<=", at); break;
+        case EQUAL: at = answer(2, values_equal(top(1), top(0)), at); break;
+        case UNEQUAL: at = answer(2, !values_equal(top(1), top(0)), at); break;
+        case NOT: at = answer(1, !is_true(top(0)), at); break;
         case JUMP:
             if (codes[at] < at)
                 hp_safepoint(&vm); /* a loop that only writes also pays for the collection */
             at = codes[at];
             break;
         case JUMP_IF_FALSE: at = is_true(top(0)) ? at + 1 : codes[at]; hp_drop(&vm, 1); break;
-        case CALL: enter(codes[at], at + 2, (uint32_t)codes[at + 1], false); at = functions[codes[at]].start; break;
+        case CALL: at = enter(codes[at], at + 2, (uint32_t)codes[at + 1], false); break;
         case GUARDED_CALL:
             hp_push(&vm); /* so that there is a place for an error */
             hp_drop(&vm, 1);
-            enter(codes[at], at + 1, 0, true);
-            at = functions[codes[at]].start;
+            at = enter(codes[at], at + 1, 0, true);
             break;
         case RETURN: at = leave(); break;
         case NEW_ARRAY: hp_array_new(&vm, hp_push(&vm), ARRAY, 0); break;
@@ -290,7 +297,7 @@ static void execute(int32_t at)
         case SET_INDEX: set_element(); break;
         case LENGTH: length(); break;
         case PUSH: push_element(); break;
-        case PRINT: print_value(top(0)); hp_drop(&vm, 1); break;
+        case PRINT: print(); break;
         case SHOW: show(); break;
         }
     }
@@ -303,8 +310,7 @@ bool run(int32_t main_function)
 {
     if (setjmp(handler) == 0) {
         text_new(NO_MEMORY_TEXT, "out of memory", 13);
-        enter(main_function, -1, 0, false);
-        next_code = functions[main_function].start;
+        next_code = enter(main_function, -1, 0, false);
     } else {
         next_code = unwind();
     }
@@ -313,6 +319,5 @@ bool run(int32_t main_function)
     else
         fprintf(stderr, "error: %s\n", error_text);
     free(calls);
-    calls = NULL;
     return next_code >= 0;
 }

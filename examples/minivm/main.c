@@ -6,8 +6,6 @@
 
 hp vm;
 
-enum { PLACES = 200000, MOST_TEXT = 1 << 20 };
-
 static _Noreturn void usage(void)
 {
     fprintf(stderr, "usage: minivm [--heap WORDS] [--most WORDS] [--stats] FILE\n");
@@ -33,10 +31,10 @@ static uint32_t words_of(const char *text)
     return (uint32_t)words;
 }
 
-/* Reads the whole file, which has less than MOST_TEXT bytes. */
+/* Reads the whole file, which has less than a MiB. */
 static const char *text_of(const char *path)
 {
-    static char text[MOST_TEXT];
+    static char text[1 << 20];
     FILE *file = fopen(path, "r");
     if (file == NULL) {
         perror(path);
@@ -89,7 +87,7 @@ int main(int count, char **words)
     }
     if (i + 1 != count)
         usage();
-    hp_open(&vm, size, PLACES, failed_outside);
+    hp_open(&vm, size, 200000, failed_outside);
     if (most > size)
         hp_growing(&vm, most);
     hp_describe_kinds(&vm, kinds, KINDS);

@@ -4,45 +4,13 @@
 
 #include "herbpond_arrays.h"
 
-/* ---- The heap */
-
 extern hp vm;
 
-/* A text is one of bytes. A table is [count, keys, values] with two arrays. */
+/* A text is one of bytes. A table is [count, keys, values] with two arrays. The truth values are the specials 0 and 1. */
 enum kind { TEXT, ARRAY, TABLE, KINDS };
 
 /* The registers that the files use while they work on an object. Only NO_MEMORY_TEXT keeps a value from one instruction to the next. */
 enum registers { KEYS, VALUES, KEY, OLD_KEYS, OLD_VALUES, WORK_REGISTERS, NO_MEMORY_TEXT = WORK_REGISTERS };
-
-/* What the specials stand for. */
-enum truth { FALSE_VALUE, TRUE_VALUE };
-
-/* ---- Errors of a program (machine.c) */
-
-/* Ends the running function with this error, which the innermost pcall returns. */
-_Noreturn void fail(const char *form, ...);
-
-/* The hook of the heap: a lack of room is an error of the program, and any other answer a mistake of minivm. */
-void heap_failed(hp *h, uint32_t answer, const char *call);
-
-/* ---- Texts (text.c) */
-
-/* Makes a text of these bytes, at most GCFLIP_MOST_BYTES. More are an error of the program, also in a text that is joined. */
-void text_new(hp_root d, const char *bytes, size_t length);
-/* Makes the text of s followed by that of t. d may be s or t. */
-void text_join(hp_root d, hp_root s, hp_root t);
-size_t text_length(hp_root s);
-bool text_same(hp_root s, hp_root t);
-uint64_t text_hash(hp_root s);
-void text_print(hp_root s);
-
-/* ---- Values and tables (table.c) */
-
-bool values_equal(hp_root s, hp_root t);
-void table_new(hp_root d);
-void table_set(hp_root s, hp_root key, hp_root value);
-/* Puts the value of the key into d, or nil if the table has no such key. */
-void table_get(hp_root d, hp_root s, hp_root key);
 
 /* ---- The program in codes (compile.c) */
 
@@ -69,5 +37,23 @@ int32_t compile(const char *text);
 
 /* Runs a function without arguments. Returns whether it ended without an error; otherwise writes the error to standard error. */
 bool run(int32_t main_function);
+
+/* Ends the running function with this error, which the innermost pcall returns. */
+_Noreturn void fail(const char *form, ...);
+
+/* The hook of the heap: a lack of room is an error of the program, and any other answer a mistake of minivm. */
+void heap_failed(hp *h, uint32_t answer, const char *call);
+
+/* ---- Texts and tables (table.c) */
+
+/* Makes a text of these bytes, or of s followed by t. More than GCFLIP_MOST_BYTES are an error of the program. */
+void text_new(hp_root d, const char *bytes, size_t length);
+void text_join(hp_root d, hp_root s, hp_root t);
+
+bool values_equal(hp_root s, hp_root t);
+void table_new(hp_root d);
+void table_set(hp_root s, hp_root key, hp_root value);
+/* Puts the value of the key into d, or nil if the table has no such key. */
+void table_get(hp_root d, hp_root s, hp_root key);
 
 #endif

@@ -1,12 +1,30 @@
-/* Equal values, and tables: [count, keys, values]. Both arrays have 8 places or a power of two above, and a key lies in the first free place from
+/* Texts, equal values, and tables: [count, keys, values]. Both arrays have 8 places or a power of two above, and a key lies in the first free place from
  * its hash on. At most three of four places are taken. */
 #include "minivm.h"
 
 enum { COUNT_FIELD, KEYS_FIELD, VALUES_FIELD, FIELDS, FIRST_PLACES = 8 };
 
+static void may_have_length(size_t length)
+{
+    if (length > GCFLIP_MOST_BYTES)
+        fail("a text has at most %d bytes", GCFLIP_MOST_BYTES);
+}
+
+void text_new(hp_root d, const char *bytes, size_t length)
+{
+    may_have_length(length);
+    hp_new_bytes(&vm, d, TEXT, bytes, length);
+}
+
+void text_join(hp_root d, hp_root s, hp_root t)
+{
+    may_have_length((size_t)hp_bytes_length(&vm, s) + hp_bytes_length(&vm, t));
+    hp_bytes_join(&vm, d, TEXT, s, t);
+}
+
 bool values_equal(hp_root s, hp_root t)
 {
-    return hp_same(&vm, s, t) || (hp_is(&vm, s, TEXT) && hp_is(&vm, t, TEXT) && text_same(s, t));
+    return hp_same(&vm, s, t) || (hp_is(&vm, s, TEXT) && hp_is(&vm, t, TEXT) && hp_bytes_same(&vm, s, t));
 }
 
 static uint64_t hash_of(hp_root key)
@@ -16,7 +34,7 @@ static uint64_t hash_of(hp_root key)
         return (uint64_t)value.integer * 0x9e3779b97f4a7c15u >> 32;
     if (value.type != HP_RAW || value.kind != TEXT)
         fail("a key is an integer or a text");
-    return text_hash(key);
+    return hp_bytes_hash(&vm, key, 0);
 }
 
 /* Gives the table, whose count stays, arrays of so many places. */
@@ -48,10 +66,12 @@ static bool find(hp_root key, uint32_t *place)
     }
 }
 
-static void load(hp_root s)
+/* Loads the arrays of a table. Returns whether it has the key, and where, or where the key would lie. */
+static bool look_up(hp_root s, hp_root key, uint32_t *place)
 {
     hp_get(&vm, KEYS, s, KEYS_FIELD);
     hp_get(&vm, VALUES, s, VALUES_FIELD);
+    return find(key, place);
 }
 
 /* Doubles the places of a table whose arrays are loaded. */
@@ -80,10 +100,11 @@ void table_set(hp_root s, hp_root key, hp_root value)
 {
     int64_t count = hp_field(&vm, s, COUNT_FIELD).integer;
     uint32_t place;
-    load(s);
-    if (4 * (count + 1) > 3 * (int64_t)hp_array_length(&vm, KEYS))
-        enlarge(s);
-    if (!find(key, &place)) {
+    if (!look_up(s, key, &place)) {
+        if (4 * (count + 1) > 3 * (int64_t)hp_array_length(&vm, KEYS)) {
+            enlarge(s);
+            find(key, &place);
+        }
         hp_array_put(&vm, KEYS, place, key);
         hp_put_int(&vm, s, COUNT_FIELD, count + 1);
     }
@@ -93,8 +114,7 @@ void table_set(hp_root s, hp_root key, hp_root value)
 void table_get(hp_root d, hp_root s, hp_root key)
 {
     uint32_t place;
-    load(s);
-    if (find(key, &place))
+    if (look_up(s, key, &place))
         hp_array_get(&vm, d, VALUES, place);
     else
         hp_set_nil(&vm, d);
