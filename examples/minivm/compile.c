@@ -103,12 +103,17 @@ static int32_t emit_with(enum code code, int32_t operand)
     return emit(operand);
 }
 
-/* Moves behind a name, and copies it. */
-static void take_name(char *name)
+static void copy_name(char *name)
 {
     if (token_length >= MOST_NAME)
         syntax_error("a name has at most 31 letters");
     memcpy(name, token, token_length + 1);
+}
+
+/* Copies the name at which the compiler is, and moves behind it. */
+static void take_name(char *name)
+{
+    copy_name(name);
     next();
 }
 
@@ -357,10 +362,11 @@ static void statement(void)
 static void function_text(void)
 {
     char name[MOST_NAME];
-    take_name(name);
+    copy_name(name);
     function *f = &functions[function_named(name)];
     if (f->start >= 0)
         syntax_error("there are two such functions");
+    next();
     wants("(");
     for (local_count = 0; sort == NAME;) {
         take_name(name);
