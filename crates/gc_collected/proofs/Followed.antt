@@ -30,8 +30,8 @@ use Rattle.gc_collected.proofs.Monitor.Ran.{ran_one}
 use Rattle.gc_collected.specs.Internal.CollectedHeap.{BelongsIfOpen, Fits}
 use Rattle.gc_collected.specs.Internal.KnownRoots.{KnowsRoots}
 use Rattle.gc_collected.specs.declared.known.KnownRoots.{KnownRoots}
-use Rattle.gc_collected.proofs.Marks.{SetsPlain, forgetting}
-use Rattle.gc_collected.proofs.OtherCommands.{SetsSlot, it_belongs, performed, plain_set, slot_set}
+use Rattle.gc_collected.proofs.Marks.{forgetting}
+use Rattle.gc_collected.proofs.OtherCommands.{SetsSlot, it_belongs, performed, slot_set}
 
 no_put : (g : Graph) (m : ℕ) (op : Op) (reply : Reply) → ¬ WritesField op → written g m op reply ≡ []
 no_put g m op reply none = grind (arith, common_steps)
@@ -78,10 +78,3 @@ pub slot_followed : {C : Type 0} (now : State) (epoch : ℕ) (known : KnownRoots
     → (Fits epoch new o × KnowsRoots (forgetting known) (state_of new (option_map collection_in o)) × C) × (along ≡ true → Follows (state_of new (option_map collection_in o)) t)
 slot_followed now epoch known heap new o m op reply t along view less is_open sound performs none low few k =
     (slot_set now epoch known heap new o m op reply view less sound performs none low k.0, λ on. quiet now heap new o m op reply t view is_open sound none few performs (it_belongs epoch heap o (k.0).0) (k.1 on))
-
--- one that sets it to nil or to a number
-pub plain_followed : {C : Type 0} (now : State) (epoch : ℕ) (known : KnownRoots) (heap new : HeapWords) (o : Option CollectionWords) (m : ℕ) (op : Op) (reply : Reply) (t : Tables) (along : Bool) → state_of heap (option_map collection_in o) ≡ now → m < now.mutators → IfSome now.collection (IsOpened now)
-    → IsHeap heap → Performs heap m op reply new → ¬ WritesField op → SetsPlain op → SetsSlot op → words_taken op ≡ 0 → (Fits epoch heap o × KnowsRoots known (state_of heap (option_map collection_in o)) × C) × (along ≡ true → Follows (state_of heap (option_map collection_in o)) t)
-    → (Fits epoch new o × KnowsRoots known (state_of new (option_map collection_in o)) × C) × (along ≡ true → Follows (state_of new (option_map collection_in o)) t)
-plain_followed now epoch known heap new o m op reply t along view less is_open sound performs none plain low few k =
-    (plain_set now epoch known heap new o m op reply view less sound performs none plain low k.0, λ on. quiet now heap new o m op reply t view is_open sound none few performs (it_belongs epoch heap o (k.0).0) (k.1 on))

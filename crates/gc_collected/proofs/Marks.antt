@@ -175,7 +175,11 @@ pub nilled_asks : (o : Option CollectionWords) (known now : KnownRoots) (k : ℕ
 nilled_asks None known now k w used = (nil_twins known.twins now.twins k w.twins used).1
 nilled_asks (Some c) known now k w used = (nil_twins known.twins now.twins k w.twins used).0
 
--- a root at a place that takes a value: a slot asks for no look
+-- a slot asks for no look
+pub stored_stays : (o : Option CollectionWords) (was now : KnownRoots) (known bound slots p : ℕ) → HasStored was now known bound slots p → p < slots → roots_left_in o now.twins ≡ roots_left_in o was.twins
+stored_stays o was now known bound slots p h less = ap (λ (x : KnownRoots). roots_left_in o x.twins) (h.slot less)
+
+-- a root at a place that takes a value
 pub stored_asks : (o : Option CollectionWords) (was now : KnownRoots) (known slots p : ℕ) → HasStored was now known (max was.twins.used (p - slots + 1)) slots p → AsksForLook p (roots_left_in o was.twins) (roots_left_in o now.twins)
 stored_asks o was now known slots p h = ⊎_elim
     (λ less. (let same = ap (λ (x : KnownRoots). roots_left_in o x.twins) (h.slot less) in (omega (arith, same), omega (arith, same))))

@@ -79,16 +79,6 @@ slot_set s epoch known heap new o m op reply is less sound performs none low k =
   k.2,
 )
 
--- a slot that is set to nil or a number needs no replica, so the marks stay
-pub plain_set : {C : Type 0} (s : State) (epoch : ℕ) (known : KnownRoots) (heap new : HeapWords) (o : Option CollectionWords) (m : ℕ) (op : Op) (reply : Reply) → state_of heap (option_map collection_in o) ≡ s → m < s.mutators → IsHeap heap → Performs heap m op reply new → ¬ WritesField op → SetsPlain op → SetsSlot op
-    → Fits epoch heap o × KnowsRoots known (state_of heap (option_map collection_in o)) × C → Fits epoch new o × KnowsRoots known (state_of new (option_map collection_in o)) × C
-plain_set s epoch known heap new o m op reply is less sound performs none plain low k = (
-  still_fits epoch heap new o m op reply sound none performs k.0,
-  subst (KnowsRoots known) (ap (λ (x : Reply × State). x.1) (mutated epoch heap new o m op reply sound none performs k.0))
-      (plain_command known (state_of heap (option_map collection_in o)) m op plain (sets_below heap.mutators m op (subst (λ (t : State). m < t.mutators) (sym is) less) low) k.1),
-  k.2,
-)
-
 -- while no collection is open, every command changes only the heap
 pub idle_mutated : (epoch : ℕ) (heap new : HeapWords) (o : Option CollectionWords) (m : ℕ) (op : Op) (reply : Reply) → IsHeap heap → ((c : CollectionWords) → o ≡ Some c → ⊥) → Performs heap m op reply new → Fits epoch heap o
     → (mutate (state_of heap (option_map collection_in o)) m op ≡ (reply, state_of new (option_map collection_in o))) × Fits epoch new o
@@ -99,9 +89,3 @@ idle_mutated epoch heap new o m op reply is none performs fits = search (rules, 
 pub plain_put_knows : (known : KnownRoots) (s one new : State) (m i : ℕ) (op : Op) (d t : SlotName) (first reply : Reply) → SetsPlain op → SetsSlot op → m < s.mutators → mutate s m op ≡ (first, one) → mutate one m (ops.Put d i t) ≡ (reply, new) → KnowsRoots known s → KnowsRoots known new
 plain_put_knows known s one new m i op d t first reply plain low less a b k =
     put_knows known one new m i d t reply b (subst (KnowsRoots known) (ap (λ (x : Reply × State). x.1) a) (plain_command known s m op plain (sets_below s.mutators m op less low) k))
-
--- ---- what is known of the roots
-
--- after a command that sets one slot
-pub slot_known : (known : KnownRoots) (s s' : State) (m : ℕ) (op : Op) (reply : Reply) → m < s.mutators → SetsSlot op → mutate s m op ≡ (reply, s') → KnowsRoots known s → KnowsRoots (forgetting known) s'
-slot_known known s s' m op reply less low said k = subst (KnowsRoots (forgetting known)) (ap (λ (x : Reply × State). x.1) said) (slot_command known s m op (sets_below s.mutators m op less low) k)

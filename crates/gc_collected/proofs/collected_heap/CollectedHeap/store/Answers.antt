@@ -1,5 +1,5 @@
 -- A store is a `Move` to an extra root, so what is known of the slots and of the other extra roots is still true, and the monitor follows.
-use Rattle.std.proofs.Common.{◌≡◌, ◌<◌, ◌-◌, Some, length, refl, sym, ap, subst, arith}
+use Rattle.std.proofs.Common.{◌≡◌, ◌<◌, ◌-◌, length, refl, sym, subst, arith}
 use Rattle.std.specs.Option.{option_map}
 use Rattle.gc_graph.specs.Slots.{roots_of}
 use Rattle.gc_graph.specs.declared.command.Op.TheVariants.{Move}

@@ -1,5 +1,5 @@
 -- A `NewRaw` writes one root and no field of an older object, so an open collection stays, and the monitor is told of the new object.
-use Rattle.std.proofs.Common.{◌≡◌, ◌<◌, true, false, length, refl, ap, sym, subst, ◌∙◌}
+use Rattle.std.proofs.Common.{◌↔◌, ◌≡◌, ◌<◌, true, false, length, refl, ap, sym, subst, ◌∙◌}
 use Rattle.gc_graph.specs.Slots.{roots_of}
 use Rattle.gc_graph.specs.declared.command.Op.TheVariants.{NewRaw}
 use Rattle.gc_graph.specs.declared.reply.Reply.{Reply}
@@ -15,8 +15,16 @@ use Rattle.gc_collected.proofs.ByPlace.{Known}
 use Rattle.gc_collected.proofs.Core.{core_is, left_is}
 use Rattle.gc_collected.proofs.Followed.{newly}
 use Rattle.gc_collected.proofs.OtherCommands.{it_belongs, mutated, said, still_fits}
-use Rattle.gc_collected.proofs.Unwritten.{StoredIf, asks_if, full_raw, known_if, not_made, same_if}
-use Rattle.gc_collected.proofs.collected_heap.CollectedHeap.new_raw_at_root.Goals as goal
+use Rattle.gc_collected.proofs.Unwritten.{StoredIf, asks_if, full_raw, known_if, not_made, same_if, stays_if}
+use Rattle.gc_collected.proofs.collected_heap.CollectedHeap.new_raw_into.Goals as goal
+use Rattle.gc_collected.proofs.collected_heap.CollectedHeap.new_raw_into.Goals.{After-root_count-slots}
+
+-- so many slots there are
+slots_are : (c : After-root_count-slots) → c.root_count-slots.result ≡ roots_of c.args.self.now.core.mutators
+slots_are c = c.root_count-slots.ensures ∙ ap roots_of (c.mutators.ensures.value ∙ (c.new_raw_at_root-made.ensures.performs 0).mutators ∙ ap (λ (s : State). s.mutators) (core_is c.self.view_is))
+
+pub took_if-requires-clause-slot : goal.took_if-requires-clause-slot
+took_if-requires-clause-slot c = subst (λ n. c.args.is_slot ≡ true ↔ c.args.d < n) (sym (slots_are (goal.at.took_if-requires-clause-slot c).After-root_count-slots)) c.requires.slot
 
 pub invariant_of-self : goal.invariant_of-self
 invariant_of-self c =
@@ -27,12 +35,12 @@ invariant_of-self c =
     let reply = c.new_raw_at_root-made.result in
     let fits = c.self.invariant.0.0 in
     let performs = c.new_raw_at_root-made.ensures.performs 0 in
-    let within = subst (λ (s : State). c.args.d < length s.heap.graph.roots) (sym (core_is c.self.view_is)) c.requires in
+    let within = subst (λ (s : State). c.args.d < length s.heap.graph.roots) (sym (core_is c.self.view_is)) c.requires.root in
     let was = c.self.inside.known in
     let now = c.took_if.new.self in
     let s = state_in heap o in
     let is = mutated c.self.inside.epoch heap new o 0 op reply c.space.ensures.sound (λ none. none) performs fits in
-    let slots = c.root_count.ensures ∙ ap roots_of (c.mutators.ensures.value ∙ performs.mutators) in
+    let slots = c.root_count-slots.ensures ∙ ap roots_of (c.mutators.ensures.value ∙ performs.mutators) in
     let stored : StoredIf c.has_made.result was now (roots_of heap.mutators) c.args.d = subst (λ n. StoredIf c.has_made.result was now n c.args.d) slots (record { written = c.took_if.ensures.written; none = c.took_if.ensures.none }) in
     let knows = subst (Known now) (ap (λ (x : Reply × State). x.1) is)
     (known_if c.has_made.result was now s 0 c.args.d op refl within stored
@@ -52,9 +60,15 @@ returns-clause-step c = said c.args.self.now.core c.self.inside.epoch c.self.ins
 
 pub returns-clause-looks : goal.returns-clause-looks
 returns-clause-looks c = subst (λ n. AsksForLook c.args.d n (roots_left_in c.self.inside.collection c.took_if.new.self.twins)) (left_is c.self.view_is)
-    (asks_if c.has_made.result c.self.inside.collection c.self.inside.known c.took_if.new.self c.root_count.result c.args.d (record { written = c.took_if.ensures.written; none = c.took_if.ensures.none }))
+    (asks_if c.has_made.result c.self.inside.collection c.self.inside.known c.took_if.new.self c.root_count-slots.result c.args.d (record { written = c.took_if.ensures.written; none = c.took_if.ensures.none }))
 
 pub returns-clause-full : goal.returns-clause-full
 returns-clause-full c = λ full.
-    same_if c.has_made.result c.self.inside.collection c.self.inside.known c.took_if.new.self c.root_count.result c.args.d (record { written = c.took_if.ensures.written; none = c.took_if.ensures.none }) (not_made c.has_made.result (λ made. c.has_made.ensures.made made full))
+    same_if c.has_made.result c.self.inside.collection c.self.inside.known c.took_if.new.self c.root_count-slots.result c.args.d (record { written = c.took_if.ensures.written; none = c.took_if.ensures.none }) (not_made c.has_made.result (λ made. c.has_made.ensures.made made full))
+    ∙ left_is c.self.view_is
+
+pub returns-clause-slots : goal.returns-clause-slots
+returns-clause-slots c = λ is.
+    stays_if c.has_made.result c.self.inside.collection c.self.inside.known c.took_if.new.self c.root_count-slots.result c.args.d (record { written = c.took_if.ensures.written; none = c.took_if.ensures.none })
+    (subst (λ n. c.args.d < n) (sym (slots_are (goal.at.returns-clause-slots c).After-root_count-slots)) (c.requires.slot.0 is))
     ∙ left_is c.self.view_is
