@@ -86,11 +86,11 @@ nil_root_known was now s p within taken k = elim (cases_lt p (roots_of s.mutator
 
 -- ---- a root that is set to nil or a number
 
-pub sets_plain : (q : ℕ) (v : Plain) → SetsPlain (set_plain q v)
+sets_plain : (q : ℕ) (v : Plain) → SetsPlain (set_plain q v)
 sets_plain q plains.Nil = tt
 sets_plain q (plains.Number n) = tt
 
-pub sets_root : (m q : ℕ) (v : Plain) → root_written m (set_plain q v) ≡ Some q
+sets_root : (m q : ℕ) (v : Plain) → root_written m (set_plain q v) ≡ Some q
 sets_root m q plains.Nil = refl
 sets_root m q (plains.Number n) = refl
 

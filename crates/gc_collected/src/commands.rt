@@ -213,9 +213,9 @@ impl CollectedHeap {
         self.look_root(self.place(m, s))
     }
 
-    // Returns the place of mutator `m`'s slot in the list of roots.
+    /// Returns the place of mutator `m`'s slot in the list of roots.
     #[inline(always)]
-    fn place(&self, m: u8, slot: Slot) -> u32
+    pub(crate) fn place(&self, m: u8, slot: Slot) -> u32
         requires { m < self.now.core.mutators }
         ensures place { result ≡ place slot m }
         ensures slot { result < roots_of self.now.core.mutators }

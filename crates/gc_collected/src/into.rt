@@ -1,7 +1,7 @@
 //! Commands that set a root by its place, as those of `places.rt` and `values.rt` do, for a caller that says whether the root is a slot. A command on slots
 //! knows that it is, and the compiler then leaves the other case out.
 
-ghost use Rattle.std.specs.Prelude.{◌≡◌, ◌≢◌, ◌↔◌, ◌<◌, IsFalse, IsTrue, length};
+ghost use Rattle.std.specs.Prelude.{◌≡◌, ◌≢◌, ◌↔◌, ◌<◌, ◌-◌, IsFalse, IsTrue, length};
 ghost use Rattle.gc_graph.specs.Slots.{roots_of};
 ghost use Rattle.gc_graph.specs.declared.command.Op.{Op};
 ghost use Rattle.gc_graph.specs.declared.reply.Reply.{Reply};
@@ -126,7 +126,7 @@ impl CollectedHeap {
         self.heap.nil_root(d)
     }
 
-    /// Does what `copy_root` does.
+    /// Does what `copy_root` does. The look that it asks for is counted from the first extra root on.
     #[inline(always)]
     pub(crate) fn copy_into(&mut self, d: u32, is_slot: bool, s: u32) -> Reply
         requires taker { d < length self.old.core.heap.graph.roots }
@@ -135,7 +135,7 @@ impl CollectedHeap {
         ensures step { mutate self.old.core 0 (Op.Move (root_at d) (root_at s)) ≡ (result, self.new.core) }
         ensures mutators { self.new.core.mutators ≡ self.old.core.mutators }
         ensures beside { self.new.beside ≡ self.old.beside }
-        ensures looks { AsksForLook d self.old.roots_left self.new.roots_left }
+        ensures looks { AsksForLook (d - roots_of self.old.core.mutators) self.old.roots_left self.new.roots_left }
         ensures slots { IsTrue is_slot → self.new.roots_left ≡ self.old.roots_left }
     {
         self.is_sound();

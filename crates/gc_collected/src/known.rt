@@ -108,9 +108,10 @@ impl KnownRoots {
         requires { IsTrue is_slot ↔ place < slots }
         ensures { HasStored self.old self.new self.old.slots self.old.twins.used slots place }
     {
-        if !is_slot {
-            self.nilled(place - slots as u32);
+        if is_slot {
+            return;
         }
+        self.nilled(place - slots as u32);
     }
 
     /// Notes that extra root `k` became nil.

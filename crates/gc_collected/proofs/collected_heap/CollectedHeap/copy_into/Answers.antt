@@ -11,7 +11,7 @@ use Rattle.gc_collected.specs.Internal.KnownRoots.{HasStored, roots_left_in}
 use Rattle.gc_roots.specs.Twins.{AsksForLook}
 use Rattle.gc_collected.proofs.ByPlace.{root_known, root_followed}
 use Rattle.gc_collected.proofs.Core.{core_is, left_is}
-use Rattle.gc_collected.proofs.Marks.{stored_asks, stored_stays}
+use Rattle.gc_collected.proofs.Marks.{stored_asks_near, stored_stays}
 use Rattle.gc_collected.proofs.OtherCommands.{said}
 use Rattle.gc_collected.proofs.collected_heap.CollectedHeap.copy_into.Goals as goal
 use Rattle.gc_collected.proofs.collected_heap.CollectedHeap.copy_into.Goals.{After-root_count-slots}
@@ -39,8 +39,10 @@ pub returns-clause-step : goal.returns-clause-step
 returns-clause-step c = said c.args.self.now.core c.self.inside.epoch c.self.inside.heap c.copy_root.new.self c.self.inside.collection 0 (Move (root_at c.args.d) (root_at c.args.s)) c.copy_root.result (core_is c.self.view_is) c.self.invariant.0.0 c.space.ensures.sound (λ none. none) (c.copy_root.ensures.performs 0)
 
 pub returns-clause-looks : goal.returns-clause-looks
-returns-clause-looks c = subst (λ n. AsksForLook c.args.d n (roots_left_in c.self.inside.collection c.took.new.self.twins)) (left_is c.self.view_is)
-    (stored_asks c.self.inside.collection c.self.inside.known c.took.new.self 0 c.root_count-slots.result c.args.d c.took.ensures)
+returns-clause-looks c =
+    subst (λ n. AsksForLook (c.args.d - n) c.args.self.now.roots_left (roots_left_in c.self.inside.collection c.took.new.self.twins)) (slots_are (goal.at.returns-clause-looks c).After-root_count-slots)
+    (subst (λ n. AsksForLook (c.args.d - c.root_count-slots.result) n (roots_left_in c.self.inside.collection c.took.new.self.twins)) (left_is c.self.view_is)
+    (stored_asks_near c.self.inside.collection c.self.inside.known c.took.new.self 0 c.root_count-slots.result c.args.d c.took.ensures))
 
 pub returns-clause-slots : goal.returns-clause-slots
 returns-clause-slots c = λ is.
