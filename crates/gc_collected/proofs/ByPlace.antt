@@ -27,7 +27,10 @@ use Rattle.gc_collected.specs.Internal.Follows.{Follows}
 use Rattle.gc_collected.specs.Internal.KnownRoots.{ComparesTwins, HasStored, HasWritten, KnowsRoots}
 use Rattle.gc_collected.specs.declared.known.KnownRoots.{KnownRoots}
 use Rattle.gc_collected.proofs.Followed.{quiet}
-use Rattle.gc_collected.proofs.Marks.{SetsPlain, one_below, plain_command, set_nil, slot_command, stored_command}
+use Rattle.gc_collected.specs.Internal.Values.{set_plain}
+use Rattle.gc_collected.specs.declared.values.Plain.{Plain}
+use Rattle.gc_collected.specs.declared.values.Plain.TheVariants as plains
+use Rattle.gc_collected.proofs.Marks.{SetsPlain, one_below, plain_command, put_knows, set_nil, slot_command, stored_command}
 use Rattle.gc_collected.proofs.OtherCommands.{it_belongs, mutated, still_fits}
 
 -- what is known of the roots, and what the monitor has compared
@@ -80,6 +83,30 @@ nil_root_known was now s p within taken k = elim (cases_lt p (roots_of s.mutator
   | inl low ↦ plain_slot was now _ s 0 p (ops.Nil (root_at p)) tt refl taken low k
   | inr high ↦ (let used = taken.used high in extra_known was now s 0 p (ops.Nil (root_at p)) refl within high (taken.extra high) (omega (arith, used)) (omega (arith, used, k.0.keeps.used_high)) (λ le. nil_made s p _ (omega (arith, high))) k)
 ]
+
+-- ---- a root that is set to nil or a number
+
+sets_plain : (q : ℕ) (v : Plain) → SetsPlain (set_plain q v)
+sets_plain q plains.Nil = tt
+sets_plain q (plains.Number n) = tt
+
+sets_root : (m q : ℕ) (v : Plain) → root_written m (set_plain q v) ≡ Some q
+sets_root m q plains.Nil = refl
+sets_root m q (plains.Number n) = refl
+
+pub puts_none : (q : ℕ) (v : Plain) → ¬ WritesField (set_plain q v)
+puts_none q plains.Nil = λ none. none
+puts_none q (plains.Number n) = λ none. none
+
+pub takes_none : (q : ℕ) (v : Plain) → words_taken (set_plain q v) ≡ 0
+takes_none q plains.Nil = refl
+takes_none q (plains.Number n) = refl
+
+-- and then put, where it is a slot
+pub set_put_knows : (known : KnownRoots) (s one new : State) (m p i q : ℕ) (v : Plain) (first reply : Reply) → q < roots_of s.mutators → mutate s m (set_plain q v) ≡ (first, one) → mutate one m (Put (root_at p) i (root_at q)) ≡ (reply, new) → KnowsRoots known s → KnowsRoots known new
+set_put_knows known s one new m p i q v first reply low set put k =
+    put_knows known one new m i (root_at p) (root_at q) reply put
+    (subst (KnowsRoots known) (ap (λ (x : Reply × State). x.1) set) (plain_command known s m (set_plain q v) (sets_plain q v) (λ r e. one_below q r (roots_of s.mutators) low (sym (sets_root m q v) ∙ e)) k))
 
 -- ---- with the heap and the monitor
 

@@ -1,6 +1,6 @@
 -- A monitor that follows a collected heap goes on following it through commands.
 use Rattle.std.proofs.lemmas.Grind.{common_steps}
-use Rattle.std.proofs.Common.{◌≡◌, ℕ, ◌<◌, [], Option, Some, None, true, false, Bool, refl, ap, sym, subst, arith}
+use Rattle.std.proofs.Common.{◌≡◌, ℕ, [], Option, Some, None, false, Bool, refl, ap, sym, subst, arith}
 use Rattle.std.specs.Prelude.{IfSome}
 use Rattle.std.specs.Option.{option_map}
 use Rattle.gc_graph.specs.Graph.{Graph}
@@ -27,11 +27,8 @@ use Rattle.gc_collected.specs.Internal.Follows.{Follows}
 use Rattle.gc_collected.proofs.Monitor.Follows.{follows_closed, follows_new, follows_quiet}
 use Rattle.gc_collected.proofs.Monitor.Grown.{new_op}
 use Rattle.gc_collected.proofs.Monitor.Ran.{ran_one}
-use Rattle.gc_collected.specs.Internal.CollectedHeap.{BelongsIfOpen, Fits}
-use Rattle.gc_collected.specs.Internal.KnownRoots.{KnowsRoots}
-use Rattle.gc_collected.specs.declared.known.KnownRoots.{KnownRoots}
-use Rattle.gc_collected.proofs.Marks.{SetsPlain, forgetting}
-use Rattle.gc_collected.proofs.OtherCommands.{SetsSlot, it_belongs, performed, plain_set, slot_set}
+use Rattle.gc_collected.specs.Internal.CollectedHeap.{BelongsIfOpen}
+use Rattle.gc_collected.proofs.OtherCommands.{performed}
 
 no_put : (g : Graph) (m : ℕ) (op : Op) (reply : Reply) → ¬ WritesField op → written g m op reply ≡ []
 no_put g m op reply none = grind (arith, common_steps)
@@ -69,19 +66,3 @@ newly now heap new o m op reply t after raw d kind len is view is_open before so
     let s = state_of heap (option_map collection_in o) in
     follows_new s (state_of new (option_map collection_in o)) m op reply raw d kind len (link_at new.space.words) new.space.words t after is (subst (λ (x : State). IfSome x.collection (IsOpened x)) (sym view) is_open)
     (subst (λ (x : State). IsSpaceGraph x.size x.heap.free x.heap.graph) (sym view) before) later (performed heap new o m op reply sound none performs belongs) (ap (λ (image : Image). image.words) shows)
-
--- ---- with what is known of the roots
-
--- a command that sets one slot, and makes no object
-pub slot_followed : {C : Type 0} (now : State) (epoch : ℕ) (known : KnownRoots) (heap new : HeapWords) (o : Option CollectionWords) (m : ℕ) (op : Op) (reply : Reply) (t : Tables) (along : Bool) → state_of heap (option_map collection_in o) ≡ now → m < now.mutators → IfSome now.collection (IsOpened now)
-    → IsHeap heap → Performs heap m op reply new → ¬ WritesField op → SetsSlot op → words_taken op ≡ 0 → (Fits epoch heap o × KnowsRoots known (state_of heap (option_map collection_in o)) × C) × (along ≡ true → Follows (state_of heap (option_map collection_in o)) t)
-    → (Fits epoch new o × KnowsRoots (forgetting known) (state_of new (option_map collection_in o)) × C) × (along ≡ true → Follows (state_of new (option_map collection_in o)) t)
-slot_followed now epoch known heap new o m op reply t along view less is_open sound performs none low few k =
-    (slot_set now epoch known heap new o m op reply view less sound performs none low k.0, λ on. quiet now heap new o m op reply t view is_open sound none few performs (it_belongs epoch heap o (k.0).0) (k.1 on))
-
--- one that sets it to nil or to a number
-pub plain_followed : {C : Type 0} (now : State) (epoch : ℕ) (known : KnownRoots) (heap new : HeapWords) (o : Option CollectionWords) (m : ℕ) (op : Op) (reply : Reply) (t : Tables) (along : Bool) → state_of heap (option_map collection_in o) ≡ now → m < now.mutators → IfSome now.collection (IsOpened now)
-    → IsHeap heap → Performs heap m op reply new → ¬ WritesField op → SetsPlain op → SetsSlot op → words_taken op ≡ 0 → (Fits epoch heap o × KnowsRoots known (state_of heap (option_map collection_in o)) × C) × (along ≡ true → Follows (state_of heap (option_map collection_in o)) t)
-    → (Fits epoch new o × KnowsRoots known (state_of new (option_map collection_in o)) × C) × (along ≡ true → Follows (state_of new (option_map collection_in o)) t)
-plain_followed now epoch known heap new o m op reply t along view less is_open sound performs none plain low few k =
-    (plain_set now epoch known heap new o m op reply view less sound performs none plain low k.0, λ on. quiet now heap new o m op reply t view is_open sound none few performs (it_belongs epoch heap o (k.0).0) (k.1 on))

@@ -8,6 +8,7 @@ mod Counts
 mod FirstLog
 mod Flips
 mod Followed
+mod GetSeen
 mod Given
 mod GivenFields
 mod KeptPair

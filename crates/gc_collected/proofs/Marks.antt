@@ -167,20 +167,27 @@ set_nil (v ∷ vs) (suc q) = set_nil vs q
 -- ---- looks
 
 -- an extra root that takes a value, or becomes nil, asks for one look at most, whether a collection is open or not
-pub taken_asks : (o : Option CollectionWords) (known now : KnownRoots) (k : ℕ) → HasWritten known now k → now.twins.used ≡ max known.twins.used (k + 1) → AsksForLook k (roots_left_in o known.twins) (roots_left_in o now.twins)
+taken_asks : (o : Option CollectionWords) (known now : KnownRoots) (k : ℕ) → HasWritten known now k → now.twins.used ≡ max known.twins.used (k + 1) → AsksForLook k (roots_left_in o known.twins) (roots_left_in o now.twins)
 taken_asks None known now k w used = (taken_twins known.twins now.twins k w.twins used).1
 taken_asks (Some c) known now k w used = (taken_twins known.twins now.twins k w.twins used).0
 
-pub nilled_asks : (o : Option CollectionWords) (known now : KnownRoots) (k : ℕ) → HasWritten known now k → now.twins.used ≡ known.twins.used → AskForLooks 1 (roots_left_in o known.twins) (roots_left_in o now.twins)
+nilled_asks : (o : Option CollectionWords) (known now : KnownRoots) (k : ℕ) → HasWritten known now k → now.twins.used ≡ known.twins.used → AskForLooks 1 (roots_left_in o known.twins) (roots_left_in o now.twins)
 nilled_asks None known now k w used = (nil_twins known.twins now.twins k w.twins used).1
 nilled_asks (Some c) known now k w used = (nil_twins known.twins now.twins k w.twins used).0
 
--- a root at a place that takes a value: a slot asks for no look
-pub stored_asks : (o : Option CollectionWords) (was now : KnownRoots) (known slots p : ℕ) → HasStored was now known (max was.twins.used (p - slots + 1)) slots p → AsksForLook p (roots_left_in o was.twins) (roots_left_in o now.twins)
-stored_asks o was now known slots p h = ⊎_elim
+-- a slot asks for no look
+pub stored_stays : (o : Option CollectionWords) (was now : KnownRoots) (known bound slots p : ℕ) → HasStored was now known bound slots p → p < slots → roots_left_in o now.twins ≡ roots_left_in o was.twins
+stored_stays o was now known bound slots p h less = ap (λ (x : KnownRoots). roots_left_in o x.twins) (h.slot less)
+
+-- a root at a place that takes a value
+pub stored_asks_near : (o : Option CollectionWords) (was now : KnownRoots) (known slots p : ℕ) → HasStored was now known (max was.twins.used (p - slots + 1)) slots p → AsksForLook (p - slots) (roots_left_in o was.twins) (roots_left_in o now.twins)
+stored_asks_near o was now known slots p h = ⊎_elim
     (λ less. (let same = ap (λ (x : KnownRoots). roots_left_in o x.twins) (h.slot less) in (omega (arith, same), omega (arith, same))))
-    (λ high. (let asks = taken_asks o was now (p - slots) (h.extra high) (h.used high) in (asks.0, omega (arith, asks.1))))
+    (λ high. taken_asks o was now (p - slots) (h.extra high) (h.used high))
     (cases_lt p slots)
+
+pub stored_asks : (o : Option CollectionWords) (was now : KnownRoots) (known slots p : ℕ) → HasStored was now known (max was.twins.used (p - slots + 1)) slots p → AsksForLook p (roots_left_in o was.twins) (roots_left_in o now.twins)
+stored_asks o was now known slots p h = let asks = stored_asks_near o was now known slots p h in (asks.0, omega (arith, asks.1))
 
 -- a root at a place that becomes nil
 pub nil_asks : (o : Option CollectionWords) (was now : KnownRoots) (known slots p : ℕ) → HasStored was now known was.twins.used slots p → AskForLooks 1 (roots_left_in o was.twins) (roots_left_in o now.twins)
@@ -265,13 +272,6 @@ put_knows known s new m i d t reply steps k = subst (KnowsRoots known) (ap (λ (
 -- the command that makes extra root i nil
 abbrev pub Clears : State → ℕ → State
 Clears s i = (mutate s 0 (ops.Nil (extra_root s.mutators i))).1
-
-nil_made : (s : State) (i : ℕ) → root (Clears s i).heap.graph (roots_of s.mutators + i) ≡ Nil
-nil_made s i = grind (arith, common_steps, cond_both, ltb-true, set_nil)
-
-pub clears_knows : (known now : KnownRoots) (s : State) (i : ℕ) → HasWritten known now i → now.twins.used ≡ known.twins.used → KnowsRoots known s → KnowsRoots now (Clears s i)
-clears_knows known now s i written used k =
-    stored_command known now s 0 i (ops.Nil (extra_root s.mutators i)) refl written (omega (arith, used)) (omega (arith, used, k.keeps.used_high)) (λ le. nil_made s i) k
 
 -- one more root
 pub clear_next : (s : State) (i j n count : ℕ) → count ≡ suc n → j ≡ suc i → clear_step s i count ≡ clear_step (Clears s i) j n

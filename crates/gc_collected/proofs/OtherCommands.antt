@@ -1,23 +1,21 @@
 -- Commands that write no field: they change only the heap, whether a collection is open or not.
 use Rattle.std.proofs.lemmas.Grind.{common_steps}
-use Rattle.std.proofs.Common.{◌≡◌, ℕ, ◌+◌, ◌<◌, length, Option, Some, None, ap, sym, subst, arith, rules}
-use Rattle.std.specs.Prelude.{max}
+use Rattle.std.proofs.Common.{◌≡◌, ℕ, ◌<◌, Option, Some, None, ap, subst, arith, rules}
 use Rattle.gc_graph.specs.Slots.{SlotName, roots_of}
 use Rattle.std.specs.Option.{option_map}
 use Rattle.gc_graph.specs.declared.command.Op.{Op}
 use Rattle.gc_graph.specs.declared.reply.Reply.{Reply}
-use Rattle.gc_heap.specs.Heap.{HeapWords, IsHeap, graph_in}
+use Rattle.gc_heap.specs.Heap.{HeapWords, IsHeap}
 use Rattle.gc_heap.specs.Commands.{Performs}
 use Rattle.gc_model.specs.Steps.{WritesField, mutate}
 use Rattle.gc_copy.specs.Words.{CollectionWords, collection_in, state_of}
 use Rattle.gc_copy.proofs.Public.{open_left, idle_left, still_unlinked}
 use Rattle.gc_model.specs.State.{State}
-use Rattle.gc_model.specs.Staying.{root_written}
 use Rattle.gc_collected.specs.Internal.CollectedHeap.{BelongsIfOpen, Fits}
-use Rattle.gc_collected.specs.Internal.KnownRoots.{HasWritten, KnowsRoots}
+use Rattle.gc_collected.specs.Internal.KnownRoots.{KnowsRoots}
 use Rattle.gc_collected.specs.declared.known.KnownRoots.{KnownRoots}
 use Rattle.gc_graph.specs.declared.command.Op.TheVariants as ops
-use Rattle.gc_collected.proofs.Marks.{WritesBelow, SetsPlain, forgetting, slot_below, slot_command, plain_command, put_knows, stored_command}
+use Rattle.gc_collected.proofs.Marks.{WritesBelow, SetsPlain, slot_below, plain_command, put_knows}
 
 pub still_fits : (epoch : ℕ) (heap new : HeapWords) (o : Option CollectionWords) (m : ℕ) (op : Op) (reply : Reply) → IsHeap heap → ¬ WritesField op → Performs heap m op reply new → Fits epoch heap o → Fits epoch new o
 still_fits epoch heap new None m op reply is none performs fits = still_unlinked epoch heap new m op reply performs fits
@@ -44,16 +42,6 @@ pub said : (s : State) (epoch : ℕ) (heap new : HeapWords) (o : Option Collecti
     → mutate s m op ≡ (reply, state_of new (option_map collection_in o))
 said s epoch heap new o m op reply is fits sound none performs = subst (λ (t : State). mutate t m op ≡ (reply, state_of new (option_map collection_in o))) is (mutated epoch heap new o m op reply sound none performs fits)
 
--- afterwards the marks are those for an extra root that was written, and is in use
-pub fits_stored : (epoch : ℕ) (known now : KnownRoots) (heap new : HeapWords) (o : Option CollectionWords) (m i : ℕ) (op : Op) (reply : Reply) → IsHeap heap → ¬ WritesField op → Performs heap m op reply new → root_written m op ≡ Some (roots_of heap.mutators + i)
-    → roots_of heap.mutators + i < length (graph_in heap).roots → HasWritten known now i → now.twins.used ≡ max known.twins.used (i + 1) → Fits epoch heap o
-    → KnowsRoots known (state_of heap (option_map collection_in o)) → Fits epoch new o × KnowsRoots now (state_of new (option_map collection_in o))
-fits_stored epoch known now heap new o m i op reply is none performs at within written used fits k = (
-  still_fits epoch heap new o m op reply is none performs fits,
-  subst (KnowsRoots now) (ap (λ (x : Reply × State). x.1) (mutated epoch heap new o m op reply is none performs fits))
-      (stored_command known now (state_of heap (option_map collection_in o)) m i op at written (omega (arith, used)) (omega (arith, used, within, k.keeps.counted, k.keeps.used_high)) (λ le. absurd (omega (arith, le, used))) k),
-)
-
 -- the place of the slot that a command sets, if it sets one, is below those of the extra roots
 abbrev pub SetsSlot : Op → Type 0
 SetsSlot (ops.New d kind len) = d.index < 16
@@ -69,26 +57,6 @@ SetsSlot (ops.Look t) = ⊥
 sets_below : (mutators m : ℕ) (op : Op) → m < mutators → SetsSlot op → WritesBelow (roots_of mutators) m op
 sets_below mutators m op less low = grind (arith, common_steps, slot_below)
 
--- after a command that sets one slot nothing is known of the slots
-pub slot_set : {C : Type 0} (s : State) (epoch : ℕ) (known : KnownRoots) (heap new : HeapWords) (o : Option CollectionWords) (m : ℕ) (op : Op) (reply : Reply) → state_of heap (option_map collection_in o) ≡ s → m < s.mutators → IsHeap heap → Performs heap m op reply new → ¬ WritesField op → SetsSlot op
-    → Fits epoch heap o × KnowsRoots known (state_of heap (option_map collection_in o)) × C → Fits epoch new o × KnowsRoots (forgetting known) (state_of new (option_map collection_in o)) × C
-slot_set s epoch known heap new o m op reply is less sound performs none low k = (
-  still_fits epoch heap new o m op reply sound none performs k.0,
-  subst (KnowsRoots (forgetting known)) (ap (λ (x : Reply × State). x.1) (mutated epoch heap new o m op reply sound none performs k.0))
-      (slot_command known (state_of heap (option_map collection_in o)) m op (sets_below heap.mutators m op (subst (λ (t : State). m < t.mutators) (sym is) less) low) k.1),
-  k.2,
-)
-
--- a slot that is set to nil or a number needs no replica, so the marks stay
-pub plain_set : {C : Type 0} (s : State) (epoch : ℕ) (known : KnownRoots) (heap new : HeapWords) (o : Option CollectionWords) (m : ℕ) (op : Op) (reply : Reply) → state_of heap (option_map collection_in o) ≡ s → m < s.mutators → IsHeap heap → Performs heap m op reply new → ¬ WritesField op → SetsPlain op → SetsSlot op
-    → Fits epoch heap o × KnowsRoots known (state_of heap (option_map collection_in o)) × C → Fits epoch new o × KnowsRoots known (state_of new (option_map collection_in o)) × C
-plain_set s epoch known heap new o m op reply is less sound performs none plain low k = (
-  still_fits epoch heap new o m op reply sound none performs k.0,
-  subst (KnowsRoots known) (ap (λ (x : Reply × State). x.1) (mutated epoch heap new o m op reply sound none performs k.0))
-      (plain_command known (state_of heap (option_map collection_in o)) m op plain (sets_below heap.mutators m op (subst (λ (t : State). m < t.mutators) (sym is) less) low) k.1),
-  k.2,
-)
-
 -- while no collection is open, every command changes only the heap
 pub idle_mutated : (epoch : ℕ) (heap new : HeapWords) (o : Option CollectionWords) (m : ℕ) (op : Op) (reply : Reply) → IsHeap heap → ((c : CollectionWords) → o ≡ Some c → ⊥) → Performs heap m op reply new → Fits epoch heap o
     → (mutate (state_of heap (option_map collection_in o)) m op ≡ (reply, state_of new (option_map collection_in o))) × Fits epoch new o
@@ -99,9 +67,3 @@ idle_mutated epoch heap new o m op reply is none performs fits = search (rules, 
 pub plain_put_knows : (known : KnownRoots) (s one new : State) (m i : ℕ) (op : Op) (d t : SlotName) (first reply : Reply) → SetsPlain op → SetsSlot op → m < s.mutators → mutate s m op ≡ (first, one) → mutate one m (ops.Put d i t) ≡ (reply, new) → KnowsRoots known s → KnowsRoots known new
 plain_put_knows known s one new m i op d t first reply plain low less a b k =
     put_knows known one new m i d t reply b (subst (KnowsRoots known) (ap (λ (x : Reply × State). x.1) a) (plain_command known s m op plain (sets_below s.mutators m op less low) k))
-
--- ---- what is known of the roots
-
--- after a command that sets one slot
-pub slot_known : (known : KnownRoots) (s s' : State) (m : ℕ) (op : Op) (reply : Reply) → m < s.mutators → SetsSlot op → mutate s m op ≡ (reply, s') → KnowsRoots known s → KnowsRoots (forgetting known) s'
-slot_known known s s' m op reply less low said k = subst (KnowsRoots (forgetting known)) (ap (λ (x : Reply × State). x.1) said) (slot_command known s m op (sets_below s.mutators m op less low) k)

@@ -1,4 +1,4 @@
--- A monitor that follows a collected heap goes on following it where extra roots become nil, or a root takes a value: no object changes.
+-- A monitor that follows a collected heap goes on following it where a root takes a value: no object changes.
 use Rattle.std.proofs.Common.{◌≡◌, inl, ℕ, zero, suc, refl, subst, sym}
 use Rattle.std.specs.Prelude.{IfSome}
 use Rattle.gc_graph.specs.Graph.{Value}
@@ -19,20 +19,6 @@ use Rattle.gc_collected.proofs.Monitor.Ran.{Ran, ran_none, ran_on, ran_one}
 -- no field was written
 abbrev Never : ℕ → ℕ → Type 0
 Never a i = ⊥
-
--- ---- extra roots are cleared
-
-clear_ran : (n : ℕ) (s : State) (k : ℕ) → Ran s (clear_step s k n) Never
-clear_ran zero s k = ran_none s Never
-clear_ran (suc n) s k =
-    let op = Nil (extra_root s.mutators k) in
-    let one : Reply × State = mutate s 0 op in
-    ran_on s one.1 (clear_step one.1 (suc k) n) (WrittenBy s.heap.graph 0 op one.0) Never Never (λ a i w. w) (λ a i w. w) (ran_one s one.1 0 op one.0 refl refl) (clear_ran n one.1 (suc k))
-
-pub follows_cleared : (s s' : State) (k n : ℕ) (t : Tables) → IfSome s.collection (IsOpened s) → clear_step s k n ≡ s' → Follows s t → Follows s' t
-follows_cleared s s' k n t is_open is = follows_quiet s s' t Never is_open (subst (λ (x : State). Ran s x Never) is (clear_ran n s k)) (λ a i w. w)
-
--- ---- a root takes a value
 
 valued_ran : (s : State) (p : ℕ) (v : Value) → Ran s (with_value s p v) Never
 valued_ran s p v = let same = ran_none s Never in record {

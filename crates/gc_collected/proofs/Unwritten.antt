@@ -24,7 +24,7 @@ use Rattle.gc_collected.specs.CollectedHeap.{HasMissed, fill_step, filled, new_f
 use Rattle.gc_collected.specs.Internal.KnownRoots.{HasStored, roots_left_in, without_slots}
 use Rattle.gc_collected.specs.declared.known.KnownRoots.{KnownRoots}
 use Rattle.gc_collected.proofs.ByPlace.{Known, root_known}
-use Rattle.gc_collected.proofs.Marks.{stored_asks}
+use Rattle.gc_collected.proofs.Marks.{stored_asks, stored_stays}
 use Rattle.gc_collected.proofs.Together.{logged_none}
 
 -- The root at place p was written, or nothing was; then the slots may be known no longer.
@@ -65,6 +65,13 @@ asks_if written o was now slots p stored = elim (cases_Bool written) [
 
 pub same_if : (written : Bool) (o : Option CollectionWords) (was now : KnownRoots) (slots p : ℕ) → StoredIf written was now slots p → written ≡ false → roots_left_in o now.twins ≡ roots_left_in o was.twins
 same_if written o was now slots p stored skipped = ap (λ (x : RootRow). roots_left_in o x) (twins_still was now (stored.none skipped))
+
+-- a slot asks for no look
+pub stays_if : (written : Bool) (o : Option CollectionWords) (was now : KnownRoots) (slots p : ℕ) → StoredIf written was now slots p → p < slots → roots_left_in o now.twins ≡ roots_left_in o was.twins
+stays_if written o was now slots p stored low = elim (cases_Bool written) [
+  | inl done ↦ stored_stays o was now 0 _ slots p (stored.written done) low
+  | inr skipped ↦ same_if written o was now slots p stored skipped
+]
 
 -- ---- whether a collection is open
 

@@ -7,11 +7,9 @@ ghost use Rattle.std.specs.Option.{option_map};
 ghost use Rattle.std.specs.List.{All};
 ghost use Rattle.gc_graph.specs.Slots.{place};
 ghost use Rattle.gc_graph.specs.declared.command.Op.{Op};
-ghost use Rattle.gc_graph.specs.declared.reply.Reply.{Reply};
-ghost use Rattle.gc_heap.specs.Filling.{TakesFields, TakesNumbers};
+ghost use Rattle.gc_heap.specs.Filling.{TakesNumbers};
 ghost use Rattle.gc_heap.specs.Places.{root_at};
 ghost use Rattle.gc_words.specs.Image.{is_start};
-ghost use Rattle.gc_words.specs.Space.{end_of};
 ghost use Rattle.gc_heap.specs.Heap.{HeapWords, IsHeap, graph_in};
 ghost use Rattle.gc_model.specs.Steps.{collect, mutate, root_target};
 ghost use Rattle.gc_model.specs.declared.step.Step.{Step};
@@ -51,40 +49,7 @@ pub(crate) fn are_shown(heap: &Heap, collection: &Collection)
     let _ = collection.new_image(&[]);
 }
 
-/// Performs mutator `m`'s `Put`. A field that it writes is logged, and the monitor is told of it. Needs room in the log.
-#[inline(always)]
-pub(crate) fn put(
-    collection: &mut Collection,
-    heap: &mut Heap,
-    watch: &mut Monitor,
-    m: u8,
-    s: Slot,
-    i: u16,
-    t: Slot,
-) -> Reply
-    requires belongs { BelongsTo heap.old collection.old }
-    requires mutator { m < heap.old.mutators }
-    requires room { 1 ≤ spare_of collection.old m }
-    ensures step { mutate (open_state heap.old collection.old) m (Op.Put s i t) ≡ (result, open_state heap.new collection.new) }
-    ensures belongs { BelongsTo heap.new collection.new }
-    ensures mutators { heap.new.mutators ≡ heap.old.mutators }
-    ensures follows { Follows (open_state heap.old collection.old) watch.old → Follows (open_state heap.new collection.new) watch.new }
-{
-    // Here the prover learns that the heap is sound, and how many roots there are.
-    let _ = heap.space();
-    let _ = heap.root_places();
-    put_root(
-        collection,
-        heap,
-        watch,
-        m,
-        s.place(m) as u32,
-        i,
-        t.place(m) as u32,
-    )
-}
-
-/// Performs mutator `m`'s `Put` on roots by their places, as `put` does.
+/// Performs mutator `m`'s `Put` on roots by their places. A field that it writes is logged, and the monitor is told of it. Needs room in the log.
 #[inline(always)]
 pub(crate) fn put_root(
     collection: &mut Collection,
@@ -301,37 +266,7 @@ pub(crate) fn reserve_in(
     }
 }
 
-/// Performs mutator `m`'s `New`. The monitor is told of the object.
-#[inline(always)]
-pub(crate) fn new_in(
-    collection: &Option<Collection>,
-    heap: &mut Heap,
-    watch: &mut Monitor,
-    m: u8,
-    d: Slot,
-    kind: u8,
-    len: u16,
-) -> Reply
-    requires belongs { BelongsIfOpen heap.old collection.now }
-    requires mutator { m < heap.old.mutators }
-    ensures step { mutate (state_in heap.old collection.now) m (Op.New d kind len) ≡ (result, state_in heap.new collection.now) }
-    ensures fits { (epoch : ℕ) → Fits epoch heap.old collection.now → Fits epoch heap.new collection.now }
-    ensures belongs { BelongsIfOpen heap.new collection.now }
-    ensures mutators { heap.new.mutators ≡ heap.old.mutators }
-    ensures follows { Follows (state_in heap.old collection.now) watch.old → Follows (state_in heap.new collection.now) watch.new }
-    // Unless there was no room, the object takes its fields.
-    ensures fields { result ≢ Reply.Full → TakesFields heap.new (place d m) (end_of heap.old.space) len }
-{
-    heaps_have_addresses_as_names();
-    are_sound_in(collection, heap);
-    // Here the prover learns that the heap is sound.
-    let _ = heap.space();
-    let reply = heap.new_object(m, d, kind, len);
-    watch.made(heap.space().words());
-    reply
-}
-
-/// Performs a `New` into a root by its place, as `new_in` does.
+/// Performs a `New` into a root by its place. The monitor is told of the object.
 #[inline(always)]
 pub(crate) fn new_root_in(
     collection: &Option<Collection>,
@@ -358,44 +293,7 @@ pub(crate) fn new_root_in(
     reply
 }
 
-/// Performs mutator `m`'s `Put`, as `put` does if a collection is open, which `is_open` says. Then it needs room in the log.
-#[inline(always)]
-pub(crate) fn put_in(
-    collection: &mut Option<Collection>,
-    heap: &mut Heap,
-    watch: &mut Monitor,
-    is_open: bool,
-    m: u8,
-    s: Slot,
-    i: u16,
-    t: Slot,
-) -> Reply
-    requires belongs { BelongsIfOpen heap.old collection.old }
-    requires open { is_open ≡ is_some collection.old }
-    requires mutator { m < heap.old.mutators }
-    requires room { HasSpare collection.old m 1 }
-    ensures step { mutate (state_in heap.old collection.old) m (Op.Put s i t) ≡ (result, state_in heap.new collection.new) }
-    ensures fits { (epoch : ℕ) → Fits epoch heap.old collection.old → Fits epoch heap.new collection.new }
-    ensures belongs { BelongsIfOpen heap.new collection.new }
-    ensures mutators { heap.new.mutators ≡ heap.old.mutators }
-    ensures follows { Follows (state_in heap.old collection.old) watch.old → Follows (state_in heap.new collection.new) watch.new }
-{
-    // Here the prover learns that the heap is sound, and how many roots there are.
-    let _ = heap.space();
-    let _ = heap.root_places();
-    put_root_in(
-        collection,
-        heap,
-        watch,
-        is_open,
-        m,
-        s.place(m) as u32,
-        i,
-        t.place(m) as u32,
-    )
-}
-
-/// Performs mutator `m`'s `Put` on roots by their places, as `put_in` does.
+/// Performs mutator `m`'s `Put` on roots by their places, as `put_root` does if a collection is open, which `is_open` says. Then it needs room in the log.
 #[inline(always)]
 pub(crate) fn put_root_in(
     collection: &mut Option<Collection>,

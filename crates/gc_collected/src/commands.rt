@@ -1,21 +1,22 @@
-//! The commands of mutators.
+//! The commands of mutators, by slots. Each is the command on the roots at the places of its slots.
 
 ghost use Rattle.std.specs.Prelude.{◌≡◌};
 
-use crate::barrier::{new_in, put, put_in, reserve_in};
 use crate::collected_heap::CollectedHeap;
-use gc_copy::{commands_leave_collections, heaps_have_addresses_as_names};
+use crate::values::Plain;
 use gc_graph::{NoMemory, Number, Op, Reply, Slot};
 use gc_heap::Fetched;
 
 impl CollectedHeap {
-    ghost use Rattle.std.specs.Prelude.{◌≡◌, ◌<◌, IfOk, OnErr, IsSome};
+    ghost use Rattle.std.specs.Prelude.{◌≡◌, ◌<◌, IfOk, OnErr, IsSome, length};
+    ghost use Rattle.gc_graph.specs.Slots.{place, roots_of};
     ghost use Rattle.gc_model.specs.Steps.{mutate, WritesField};
     ghost use Rattle.gc_graph.specs.declared.command.Op.{Op};
     ghost use Rattle.gc_collected.specs.CollectedHeap.{Fetches};
 
     /// Performs mutator `m`'s command. While a collection is open, a field that the command wrote is logged (the
     /// write barrier). Only a `put` while a collection is open can return `NoMemory`; the heap is then unchanged.
+    #[tactic(auto, using(crate::proofs::Together::logged_none))]
     pub fn mutate(&mut self, m: u8, op: &Op) -> Result<Reply, NoMemory>
         requires { m < self.old.core.mutators }
         ensures step { IfOk result (λ reply. mutate self.old.core m op.now ≡ (reply, self.new.core)) }
@@ -42,6 +43,7 @@ impl CollectedHeap {
     /// Makes an object of this kind with `len` fields, all nil, and sets `d` to a reference to it. Returns `Made`, or
     /// `Full` if there is no room; then nothing has changed. Does not allocate.
     #[inline(always)]
+    #[tactic(auto, using(crate::proofs::Together::logged_none))]
     pub fn new_object(&mut self, m: u8, d: Slot, kind: u8, len: u16) -> Reply
         requires { m < self.old.core.mutators }
         ensures step { mutate self.old.core m (Op.New d kind len) ≡ (result, self.new.core) }
@@ -49,23 +51,12 @@ impl CollectedHeap {
         ensures beside { self.new.beside ≡ self.old.beside }
         ensures looks { self.new.roots_left ≡ self.old.roots_left }
     {
-        // Here the prover learns that the heap is sound, and the slot in range.
-        let _ = self.heap.space();
-        let _ = d.index();
-        self.known.slots = 0;
-        new_in(
-            &self.collection,
-            &mut self.heap,
-            &mut self.watch,
-            m,
-            d,
-            kind,
-            len,
-        )
+        self.new_into(self.place(m, d), true, kind, len)
     }
 
     /// Makes a raw object, as `new_object` makes an object. Its fields are plain numbers, all 0. Does not allocate.
     #[inline(always)]
+    #[tactic(auto, using(crate::proofs::Together::logged_none))]
     pub fn new_raw(&mut self, m: u8, d: Slot, kind: u8, len: u16) -> Reply
         requires { m < self.old.core.mutators }
         ensures step { mutate self.old.core m (Op.NewRaw d kind len) ≡ (result, self.new.core) }
@@ -73,19 +64,12 @@ impl CollectedHeap {
         ensures beside { self.new.beside ≡ self.old.beside }
         ensures looks { self.new.roots_left ≡ self.old.roots_left }
     {
-        self.is_sound();
-        // Here the prover learns that the heap is sound, and the slot in range.
-        let _ = self.heap.space();
-        let _ = d.index();
-        heaps_have_addresses_as_names();
-        self.known.slots = 0;
-        let reply = self.heap.new_raw(m, d, kind, len);
-        self.watch.made(self.heap.space().words());
-        reply
+        self.new_raw_into(self.place(m, d), true, kind, len)
     }
 
     /// Sets `d` to the number. Returns `Done`. Does not allocate.
     #[inline(always)]
+    #[tactic(auto, using(crate::proofs::Together::logged_none))]
     pub fn num(&mut self, m: u8, d: Slot, n: Number) -> Reply
         requires { m < self.old.core.mutators }
         ensures step { mutate self.old.core m (Op.Num d n) ≡ (result, self.new.core) }
@@ -93,15 +77,12 @@ impl CollectedHeap {
         ensures beside { self.new.beside ≡ self.old.beside }
         ensures looks { self.new.roots_left ≡ self.old.roots_left }
     {
-        self.is_sound();
-        // Here the prover learns that the heap is sound, and the slot in range.
-        let _ = self.heap.space();
-        let _ = d.index();
-        self.heap.num(m, d, n)
+        self.num_into(self.place(m, d), true, n)
     }
 
     /// Sets `d` to nil. Returns `Done`. Does not allocate.
     #[inline(always)]
+    #[tactic(auto, using(crate::proofs::Together::logged_none))]
     pub fn nil(&mut self, m: u8, d: Slot) -> Reply
         requires { m < self.old.core.mutators }
         ensures step { mutate self.old.core m (Op.Nil d) ≡ (result, self.new.core) }
@@ -109,15 +90,12 @@ impl CollectedHeap {
         ensures beside { self.new.beside ≡ self.old.beside }
         ensures looks { self.new.roots_left ≡ self.old.roots_left }
     {
-        self.is_sound();
-        // Here the prover learns that the heap is sound, and the slot in range.
-        let _ = self.heap.space();
-        let _ = d.index();
-        self.heap.nil(m, d)
+        self.nil_into(self.place(m, d), true)
     }
 
     /// Sets `d` to what `s` holds. Returns `Done`. Does not allocate.
     #[inline(always)]
+    #[tactic(auto, using(crate::proofs::Together::logged_none))]
     pub fn move_slot(&mut self, m: u8, d: Slot, s: Slot) -> Reply
         requires { m < self.old.core.mutators }
         ensures step { mutate self.old.core m (Op.Move d s) ≡ (result, self.new.core) }
@@ -125,12 +103,7 @@ impl CollectedHeap {
         ensures beside { self.new.beside ≡ self.old.beside }
         ensures looks { self.new.roots_left ≡ self.old.roots_left }
     {
-        self.is_sound();
-        // Here the prover learns that the heap is sound, and the slot in range.
-        let _ = self.heap.space();
-        let _ = d.index();
-        self.known.slots = 0;
-        self.heap.move_slot(m, d, s)
+        self.copy_into(self.place(m, d), true, self.place(m, s))
     }
 
     /// Sets `d` to field `i` of the object that `s` refers to. Returns `Saw`, or else `NoObject` or `NoField`. Does not
@@ -143,17 +116,19 @@ impl CollectedHeap {
         ensures beside { self.new.beside ≡ self.old.beside }
         ensures looks { self.new.roots_left ≡ self.old.roots_left }
     {
-        self.is_sound();
-        // Here the prover learns that the heap is sound, and the slot in range.
-        let _ = self.heap.space();
-        let _ = d.index();
-        self.known.slots = 0;
-        self.heap.get(m, d, s, i)
+        // Here the prover learns that the slot is in range.
+        let _ = self.place(m, d);
+        match self.fetch(m, d, s, i) {
+            Fetched::NoObject => Reply::NoObject,
+            Fetched::NoField => Reply::NoField,
+            _ => self.look(m, d),
+        }
     }
 
     /// Does what `get` does, but does not read an object that it found, so it returns no kind and no length. Does not
     /// allocate.
     #[inline(always)]
+    #[tactic(auto, using(crate::proofs::Together::logged_none))]
     pub fn fetch(&mut self, m: u8, d: Slot, s: Slot, i: u16) -> Fetched
         requires { m < self.old.core.mutators }
         ensures fetches { Fetches self.old.core m d s i result self.new.core }
@@ -161,12 +136,7 @@ impl CollectedHeap {
         ensures beside { self.new.beside ≡ self.old.beside }
         ensures looks { self.new.roots_left ≡ self.old.roots_left }
     {
-        self.is_sound();
-        // Here the prover learns that the heap is sound, and the slot in range.
-        let _ = self.heap.space();
-        let _ = d.index();
-        self.known.slots = 0;
-        self.heap.fetch(m, d, s, i)
+        self.fetch_into(self.place(m, d), true, self.place(m, s), u32::from(i))
     }
 
     /// Writes what `t` holds to field `i` of the object that `s` refers to. Returns `Done`, or else `NoObject`,
@@ -182,14 +152,7 @@ impl CollectedHeap {
         ensures beside { self.new.beside ≡ self.old.beside }
         ensures looks { self.new.roots_left ≡ self.old.roots_left }
     {
-        commands_leave_collections();
-        // Here the prover learns that the heap is sound.
-        let _ = self.heap.space();
-        let Some(collection) = &mut self.collection else {
-            return Ok(self.heap.put(m, s, i, t));
-        };
-        collection.reserve(m)?;
-        Ok(put(collection, &mut self.heap, &mut self.watch, m, s, i, t))
+        self.put_root(m, self.place(m, s), u32::from(i), self.place(m, t))
     }
 
     /// Performs a `num` and a `put` in one call: sets `t` to the number, and then writes it to field `i` of the object
@@ -212,23 +175,7 @@ impl CollectedHeap {
         ensures beside { self.new.beside ≡ self.old.beside }
         ensures looks { self.new.roots_left ≡ self.old.roots_left }
     {
-        self.is_sound();
-        // Here the prover learns that the heap is sound, and the slot in range.
-        let _ = self.heap.space();
-        let _ = t.index();
-        let is_open = self.collection.is_some();
-        reserve_in(&mut self.collection, m, 1)?;
-        let _done = self.heap.num(m, t, n);
-        Ok(put_in(
-            &mut self.collection,
-            &mut self.heap,
-            &mut self.watch,
-            is_open,
-            m,
-            s,
-            i,
-            t,
-        ))
+        self.put_through(m, self.place(m, s), i, self.place(m, t), Plain::Number(n))
     }
 
     /// Performs a `nil` and a `put` in one call: sets `t` to nil, and then writes it to field `i` of the object that `s`
@@ -243,44 +190,39 @@ impl CollectedHeap {
         ensures beside { self.new.beside ≡ self.old.beside }
         ensures looks { self.new.roots_left ≡ self.old.roots_left }
     {
-        self.is_sound();
-        // Here the prover learns that the heap is sound, and the slot in range.
-        let _ = self.heap.space();
-        let _ = t.index();
-        let is_open = self.collection.is_some();
-        reserve_in(&mut self.collection, m, 1)?;
-        let _done = self.heap.nil(m, t);
-        Ok(put_in(
-            &mut self.collection,
-            &mut self.heap,
-            &mut self.watch,
-            is_open,
-            m,
-            s,
-            i,
-            t,
-        ))
+        self.put_through(m, self.place(m, s), i, self.place(m, t), Plain::Nil)
     }
 
     /// Compares what `s` and `t` hold. Returns `Yes` or `No`. Changes nothing.
     #[inline(always)]
+    #[tactic(auto, using(crate::proofs::Together::logged_none))]
     pub fn same(&self, m: u8, s: Slot, t: Slot) -> Reply
         requires { m < self.now.core.mutators }
         ensures { mutate self.now.core m (Op.Same s t) ≡ (result, self.now.core) }
     {
-        // Here the prover learns that the heap is sound.
-        let _ = self.heap.space();
-        self.heap.same(m, s, t)
+        self.same_root(self.place(m, s), self.place(m, t))
     }
 
     /// Returns `Saw` with what `s` holds. Changes nothing.
     #[inline(always)]
+    #[tactic(auto, using(crate::proofs::Together::logged_none))]
     pub fn look(&self, m: u8, s: Slot) -> Reply
         requires { m < self.now.core.mutators }
         ensures { mutate self.now.core m (Op.Look s) ≡ (result, self.now.core) }
     {
-        // Here the prover learns that the heap is sound.
-        let _ = self.heap.space();
-        self.heap.look(m, s)
+        self.look_root(self.place(m, s))
+    }
+
+    /// Returns the place of mutator `m`'s slot in the list of roots.
+    #[inline(always)]
+    pub(crate) fn place(&self, m: u8, slot: Slot) -> u32
+        requires { m < self.now.core.mutators }
+        ensures place { result ≡ place slot m }
+        ensures slot { result < roots_of self.now.core.mutators }
+        ensures root { result < length self.now.core.heap.graph.roots }
+    {
+        // Here the prover learns how many roots there are.
+        let _ = self.root_places();
+        slot.place(m) as u32
     }
 }

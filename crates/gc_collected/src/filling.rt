@@ -183,8 +183,9 @@ impl CollectedHeap {
             kind,
             fields,
         );
+        let slots = root_count(self.heap.mutators());
         self.known
-            .took_if(has_made(&made), d, root_count(self.heap.mutators()));
+            .took_if(has_made(&made), (d as usize) < slots, d, slots);
         Ok(made)
     }
 }

@@ -1,6 +1,6 @@
 //! What a collected heap knows of its roots, and how far the search for roots whose targets have no replicas has come.
 
-ghost use Rattle.std.specs.Prelude.{◌≡◌, ◌⊎◌, ◌<◌, ◌≤◌, ◌+◌, ◌-◌, IfOk, IfSome, IsFalse, IsTrue, None, length, max, replicate};
+ghost use Rattle.std.specs.Prelude.{◌≡◌, ◌⊎◌, ◌↔◌, ◌<◌, ◌≤◌, ◌+◌, ◌-◌, IfOk, IfSome, IsFalse, IsTrue, None, length, max, replicate};
 ghost use Rattle.std.specs.Option.{option_map};
 ghost use Rattle.gc_graph.specs.Slots.{roots_of};
 ghost use Rattle.gc_heap.specs.Heap.{graph_in};
@@ -61,48 +61,57 @@ impl KnownRoots {
         self.looks.written(k);
     }
 
-    /// Notes that the root at this place was written, where there are so many slots.
+    /// Notes that the root at this place was written, where there are so many slots. `is_slot` says whether it is one of them.
     #[inline(always)]
-    pub(crate) fn took(&mut self, place: u32, slots: usize)
+    pub(crate) fn took(&mut self, is_slot: bool, place: u32, slots: usize)
+        requires slot { IsTrue is_slot ↔ place < slots }
         requires within { (slots ≤ place) → place - slots < length self.old.twins.twins }
         ensures { HasStored self.old self.new 0 (max self.old.twins.used (place - slots + 1)) slots place }
     {
-        self.took_if(true, place, slots);
+        if is_slot {
+            self.slots = 0;
+        } else {
+            self.wrote(place - slots as u32);
+        }
     }
 
     /// The same, if it was written. Of a slot nothing is known afterwards, written or not: no look is asked for at slots.
     #[inline(always)]
-    pub(crate) fn took_if(&mut self, is_written: bool, place: u32, slots: usize)
+    pub(crate) fn took_if(&mut self, is_written: bool, is_slot: bool, place: u32, slots: usize)
+        requires slot { IsTrue is_slot ↔ place < slots }
         requires within { (slots ≤ place) → place - slots < length self.old.twins.twins }
         ensures written { IsTrue is_written → HasStored self.old self.new 0 (max self.old.twins.used (place - slots + 1)) slots place }
         ensures none { IsFalse is_written → (self.new ≡ self.old) ⊎ (self.new ≡ without_slots self.old) }
     {
-        if (place as usize) < slots {
+        if is_slot {
             self.slots = 0;
         } else if is_written {
             self.wrote(place - slots as u32);
         }
     }
 
-    /// The same for nil or a number, which needs no replica.
+    /// The same as `took` for nil or a number, which needs no replica.
     #[inline(always)]
-    pub(crate) fn took_plain(&mut self, place: u32, slots: usize)
+    pub(crate) fn took_plain(&mut self, is_slot: bool, place: u32, slots: usize)
+        requires slot { IsTrue is_slot ↔ place < slots }
         requires within { (slots ≤ place) → place - slots < length self.old.twins.twins }
         ensures { HasStored self.old self.new self.old.slots (max self.old.twins.used (place - slots + 1)) slots place }
     {
-        if place as usize >= slots {
+        if !is_slot {
             self.wrote(place - slots as u32);
         }
     }
 
-    /// Notes that the root at this place became nil, where there are so many slots.
+    /// The same for nil.
     #[inline(always)]
-    pub(crate) fn took_nil(&mut self, place: u32, slots: usize)
+    pub(crate) fn took_nil(&mut self, is_slot: bool, place: u32, slots: usize)
+        requires { IsTrue is_slot ↔ place < slots }
         ensures { HasStored self.old self.new self.old.slots self.old.twins.used slots place }
     {
-        if slots <= place as usize {
-            self.nilled(place - slots as u32);
+        if is_slot {
+            return;
         }
+        self.nilled(place - slots as u32);
     }
 
     /// Notes that extra root `k` became nil.

@@ -13,6 +13,7 @@ mod filling;
 mod flip;
 mod flipping;
 mod giving;
+mod into;
 mod known;
 mod laws;
 mod mixed;

@@ -11,10 +11,10 @@ ghost use Rattle.gc_roots.specs.Twins.{AsksForLook};
 ghost use Rattle.gc_collected.specs.CollectedHeap.{Fetches, HasMissed};
 ghost use Rattle.gc_collected.specs.Surely.{PutsSurely};
 
-use crate::barrier::{new_root_in, put_root};
+use crate::barrier::put_root;
 use crate::collected_heap::CollectedHeap;
-use gc_copy::{commands_leave_collections, heaps_have_addresses_as_names};
-use gc_graph::{NoMemory, Number, Reply, root_count};
+use gc_copy::commands_leave_collections;
+use gc_graph::{NoMemory, Number, Reply};
 use gc_heap::Fetched;
 
 impl CollectedHeap {
@@ -41,31 +41,7 @@ impl CollectedHeap {
         ensures looks { AsksForLook d self.old.roots_left self.new.roots_left }
         ensures full { result ≡ Reply.Full → self.new.roots_left ≡ self.old.roots_left }
     {
-        // Here the prover learns that the heap is sound.
-        let _ = self.heap.space();
-        let slots = root_count(self.heap.mutators());
-        // A slot asks for no look, so it needs no test of the reply.
-        if (d as usize) < slots {
-            self.known.slots = 0;
-            return new_root_in(
-                &self.collection,
-                &mut self.heap,
-                &mut self.watch,
-                d,
-                kind,
-                len,
-            );
-        }
-        let made = new_root_in(
-            &self.collection,
-            &mut self.heap,
-            &mut self.watch,
-            d,
-            kind,
-            len,
-        );
-        self.known.took_if(has_made(&made), d, slots);
-        made
+        self.new_into(d, self.is_slot(d), kind, len)
     }
 
     /// Makes a raw object, as `new_at_root` makes an object. Its fields are plain numbers, all 0. Does not allocate.
@@ -78,15 +54,7 @@ impl CollectedHeap {
         ensures looks { AsksForLook d self.old.roots_left self.new.roots_left }
         ensures full { result ≡ Reply.Full → self.new.roots_left ≡ self.old.roots_left }
     {
-        self.is_sound();
-        // Here the prover learns that the heap is sound.
-        let _ = self.heap.space();
-        heaps_have_addresses_as_names();
-        let made = self.heap.new_raw_at_root(d, kind, len);
-        self.known
-            .took_if(has_made(&made), d, root_count(self.heap.mutators()));
-        self.watch.made(self.heap.space().words());
-        made
+        self.new_raw_into(d, self.is_slot(d), kind, len)
     }
 
     /// Sets root `d` to the number. Returns `Done`. Does not allocate.
@@ -98,11 +66,7 @@ impl CollectedHeap {
         ensures beside { self.new.beside ≡ self.old.beside }
         ensures looks { AsksForLook d self.old.roots_left self.new.roots_left }
     {
-        self.is_sound();
-        // Here the prover learns that the heap is sound.
-        let _ = self.heap.space();
-        self.known.took_plain(d, root_count(self.heap.mutators()));
-        self.heap.num_root(d, n)
+        self.num_into(d, self.is_slot(d), n)
     }
 
     /// Sets root `d` to what root `s` holds. Returns `Done`. Does not allocate.
@@ -115,11 +79,7 @@ impl CollectedHeap {
         ensures beside { self.new.beside ≡ self.old.beside }
         ensures looks { AsksForLook d self.old.roots_left self.new.roots_left }
     {
-        self.is_sound();
-        // Here the prover learns that the heap is sound.
-        let _ = self.heap.space();
-        self.known.took(d, root_count(self.heap.mutators()));
-        self.heap.copy_root(d, s)
+        self.copy_into(d, self.is_slot(d), s)
     }
 
     /// Sets root `d` to field `i` of the object that root `s` refers to, as a `Get` does, but does not read an object that it found, so it returns no
@@ -134,19 +94,7 @@ impl CollectedHeap {
         ensures looks { AsksForLook d self.old.roots_left self.new.roots_left }
         ensures missed { HasMissed result → self.new.roots_left ≡ self.old.roots_left }
     {
-        self.is_sound();
-        // Here the prover learns that the heap is sound.
-        let _ = self.heap.space();
-        let slots = root_count(self.heap.mutators());
-        let field = field_number(i);
-        // A slot asks for no look, so it needs no test of what is found.
-        if (d as usize) < slots {
-            self.known.slots = 0;
-            return self.heap.fetch_root(d, s, field);
-        }
-        let fetched = self.heap.fetch_root(d, s, field);
-        self.known.took_if(has_fetched(&fetched), d, slots);
-        fetched
+        self.fetch_into(d, self.is_slot(d), s, i)
     }
 
     /// Writes what root `t` holds to field `i` of the object that root `s` refers to, as mutator `m`'s `Put`. Returns `Done`, or else `NoObject`, `NoField`
@@ -226,18 +174,6 @@ pub(crate) fn has_made(reply: &Reply) -> bool
 {
     match reply {
         Reply::Full => false,
-        _ => true,
-    }
-}
-
-// Returns whether a `Get` with this outcome found a value.
-#[inline(always)]
-fn has_fetched(fetched: &Fetched) -> bool
-    ensures found { IsTrue result → ¬ HasMissed fetched.now }
-    ensures missed { IsFalse result → HasMissed fetched.now }
-{
-    match fetched {
-        Fetched::NoObject | Fetched::NoField => false,
         _ => true,
     }
 }

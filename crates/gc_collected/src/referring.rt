@@ -54,7 +54,8 @@ impl CollectedHeap {
         self.is_sound();
         // Here the prover learns that the heap is sound.
         let _ = self.heap.space();
-        self.known.took(d, root_count(self.heap.mutators()));
+        let slots = root_count(self.heap.mutators());
+        self.known.took((d as usize) < slots, d, slots);
         self.heap.refer_root(d, a);
         Reply::Done
     }

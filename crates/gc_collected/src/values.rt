@@ -1,22 +1,26 @@
 //! Commands by places that set a root or a field to nil or to a number. No other root takes the value.
 
 ghost use Rattle.std.specs.Prelude.{ℕ, List, ◌≡◌, ◌<◌, ◌≤◌, ◌-◌, length, IfOk, OnErr, IsSome};
+ghost use Rattle.gc_graph.specs.Slots.{roots_of};
 ghost use Rattle.gc_graph.specs.declared.command.Op.{Op};
 ghost use Rattle.gc_words.specs.Closed.{IsRootWord};
 ghost use Rattle.gc_words.specs.Word.{value_of};
+ghost use Rattle.gc_heap.specs.Commands.{Performs};
+ghost use Rattle.gc_heap.specs.Heap.{IsHeap};
 ghost use Rattle.gc_heap.specs.Places.{root_at};
 ghost use Rattle.gc_model.specs.Steps.{mutate};
 ghost use Rattle.gc_roots.specs.Twins.{AskForLooks};
-ghost use Rattle.gc_collected.specs.Values.{clear_roots_step, value_of_plain, put_value_step};
+ghost use Rattle.gc_collected.specs.Values.{clear_roots_step, put_value_step, value_of_plain};
+ghost use Rattle.gc_collected.specs.Internal.Values.{set_plain};
 ghost use Rattle.gc_collected.specs.Internal.CollectedHeap.{BelongsIfOpen, Fits, HasSpare, state_in};
 ghost use Rattle.gc_collected.specs.Internal.Follows.{Follows};
 
-use crate::barrier::reserve_in;
+use crate::barrier::{put_root_in, reserve_in};
 use crate::collected_heap::CollectedHeap;
 use crate::copying::{object, put_words};
 use crate::places::field_number;
 use gc_copy::Collection;
-use gc_graph::{NoMemory, Number, Reply, root_count};
+use gc_graph::{NoMemory, Number, Reply};
 use gc_heap::{Heap, field_word};
 use gc_monitor::Monitor;
 use gc_words::{Value, encode};
@@ -38,11 +42,7 @@ impl CollectedHeap {
         ensures beside { self.new.beside ≡ self.old.beside }
         ensures looks { AskForLooks 1 self.old.roots_left self.new.roots_left }
     {
-        self.is_sound();
-        // Here the prover learns that the heap is sound.
-        let _ = self.heap.space();
-        self.known.took_nil(d, root_count(self.heap.mutators()));
-        self.heap.nil_root(d)
+        self.nil_into(d, self.is_slot(d))
     }
 
     /// Sets the roots from root `from` on, and below root `to`, to nil, each by a `Nil`, in rising order. Does not allocate, and logs nothing.
@@ -85,6 +85,60 @@ impl CollectedHeap {
             field_number(i),
             value,
         ))
+    }
+
+    /// Sets slot `t`, by its place, to nil or a number, and then performs mutator `m`'s `put_root` of it, in one call. Returns the reply to the `put_root`.
+    /// Returns `NoMemory` only while a collection is open; the heap is then unchanged.
+    #[inline(always)]
+    pub(crate) fn put_through(
+        &mut self,
+        m: u8,
+        s: u32,
+        i: u16,
+        t: u32,
+        value: Plain,
+    ) -> Result<Reply, NoMemory>
+        requires mutator { m < self.old.core.mutators }
+        requires target { s < length self.old.core.heap.graph.roots }
+        requires giver { t < roots_of self.old.core.mutators }
+        ensures step { IfOk result (λ reply.
+            mutate (mutate self.old.core m (set_plain t value)).1 m (Op.Put (root_at s) i (root_at t)) ≡ (reply, self.new.core)) }
+        ensures refused { OnErr result (self.new ≡ self.old) }
+        ensures open { OnErr result (IsSome self.old.core.collection) }
+        ensures mutators { self.new.core.mutators ≡ self.old.core.mutators }
+        ensures beside { self.new.beside ≡ self.old.beside }
+        ensures looks { self.new.roots_left ≡ self.old.roots_left }
+    {
+        self.is_sound();
+        // Here the prover learns that the heap is sound, and how many roots there are.
+        let _ = self.heap.space();
+        let _ = self.root_places();
+        let is_open = self.collection.is_some();
+        reserve_in(&mut self.collection, m, 1)?;
+        let _done = set_plain(&mut self.heap, t, value);
+        Ok(put_root_in(
+            &mut self.collection,
+            &mut self.heap,
+            &mut self.watch,
+            is_open,
+            m,
+            s,
+            i,
+            t,
+        ))
+    }
+}
+
+// Sets root `d` to nil or a number. Returns `Done`.
+#[inline(always)]
+fn set_plain(heap: &mut Heap, d: u32, value: Plain) -> Reply
+    requires { d < length heap.old.roots }
+    ensures performs { (m : ℕ) → Performs heap.old m (set_plain d value) result heap.new }
+    ensures sound { IsHeap heap.new }
+{
+    match value {
+        Plain::Nil => heap.nil_root(d),
+        Plain::Number(n) => heap.num_root(d, n),
     }
 }
 

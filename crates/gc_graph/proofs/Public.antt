@@ -6,5 +6,5 @@ pub use Rattle.gc_graph.proofs.Matched.{AlikeAfter, matched_of, step_alike}
 pub use Rattle.gc_graph.proofs.Matching.{Alike, Matched, ObjectsAlike, nils, numbers, partners, without_objects}
 pub use Rattle.gc_graph.proofs.Replies.{fresh_unused, matched_itself, own_pairs}
 pub use Rattle.gc_graph.proofs.SentText.{front_sent, nothing_sent, sent_at_last, sent_then}
-pub use Rattle.gc_graph.proofs.Stepping.{in_place, new_step, step_roots, with_free}
+pub use Rattle.gc_graph.proofs.Stepping.{in_place, step_roots, with_free}
 pub use Rattle.gc_graph.specs.Internal.Machine.{make_object}

@@ -85,7 +85,7 @@ abbrev pub new_command : Bool → SlotName → ℕ → ℕ → Op
 new_command true d kind len = ops.NewRaw d kind len
 new_command false d kind len = ops.New d kind len
 
-pub new_step : (s t : Roomy) (m : ℕ) (d : SlotName) (raw : Bool) (kind len name : ℕ) (reply : Reply) → (reply, t) ≡ cond (nat_lt s.free (len + 2)) (Full, s) (with_object s name (place d m) raw kind len) → roomy_step s m (new_command raw d kind len) name ≡ (reply, t)
+new_step : (s t : Roomy) (m : ℕ) (d : SlotName) (raw : Bool) (kind len name : ℕ) (reply : Reply) → (reply, t) ≡ cond (nat_lt s.free (len + 2)) (Full, s) (with_object s name (place d m) raw kind len) → roomy_step s m (new_command raw d kind len) name ≡ (reply, t)
 new_step s t m d raw kind len name reply is = grind (arith, common_steps)
 
 pub new_answered_if_ok : (r : Result Reply NoMemory) (s t : Roomy) (m : ℕ) (d : SlotName) (p : ℕ) (raw : Bool) (kind len : ℕ) (op : Op) → op ≡ new_command raw d kind len → p ≡ place d m

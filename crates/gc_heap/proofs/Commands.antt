@@ -5,7 +5,6 @@ use Rattle.std.specs.Prelude.{not, ◌&&◌, slice_get, slice_index, slice_set, 
 use Rattle.std.specs.Option.{option_map}
 use Rattle.std.proofs.lemmas.Bool.{eqb-true, eq-eqb, cases_Bool, and_from, and_parts}
 use Rattle.gc_graph.specs.Graph.{Value, Ref, Graph, object_of, field_of, root, set_root, set_field, name_of}
-use Rattle.gc_graph.specs.Slots.{roots_of}
 use Rattle.gc_graph.specs.Machine.{view_of, same, get_field, is_number, put_field}
 use Rattle.gc_graph.specs.declared.reply.Reply.{Reply}
 use Rattle.gc_graph.specs.declared.reply.Reply.TheVariants.{Done, NoField, NoNumber, Saw}
@@ -30,10 +29,6 @@ get_index (x ∷ xs) (suc i) h = get_index xs i (omega arith)
 -- an index within bounds reads the same for every default
 pub read_root : (h : HeapWords) (items : List ℕ) (p w : ℕ) → items ≡ h.roots → p < length h.roots → w ≡ get_or items p w → w ≡ slice_index h.roots p
 read_root h items p w same less read = grind (arith, common_steps)
-
--- a mutator's root that is read in a borrow of the heap
-pub slot_read : (inside h : HeapWords) (p w : ℕ) → inside ≡ h → IsHeap inside → p < roots_of h.mutators → w ≡ get_or inside.roots p w → w ≡ slice_index h.roots p
-slot_read inside h p w view heap less read = read_root h inside.roots p w (ap (λ (h : HeapWords). h.roots) view) (omega (arith, less, (subst IsHeap view heap).roots)) read
 
 pub root_word : (h : HeapWords) (p : ℕ) → IsHeap h → p < length h.roots → IsRootWord h.space.words (slice_index h.roots p)
 root_word h p heap less = closed_root_read h.space.words h.roots p (slice_index h.roots p) heap.closed (get_index h.roots p less)

@@ -1,17 +1,14 @@
 -- Commands on a heap of words, as steps of the roomy machine.
 use Rattle.std.proofs.lemmas.Grind.{common_steps}
 use Rattle.std.proofs.Common.{◌≡◌, ℕ, ◌+◌, ◌-◌, Bool, cond, sym, ◌∙◌, ap, arith}
-use Rattle.std.specs.Prelude.{slice_index, slice_set}
+use Rattle.std.specs.Prelude.{slice_set}
 use Rattle.std.proofs.lemmas.Bool.{le-ltb}
-use Rattle.gc_graph.specs.Slots.{SlotName, place}
 use Rattle.gc_graph.specs.Graph.{Value, Ref, set_root, add_object, new_object}
-use Rattle.gc_graph.specs.Machine.{step, roomy_step, view_of, MakesObject}
+use Rattle.gc_graph.specs.Machine.{Roomy, step, roomy_step, MakesObject}
 use Rattle.gc_graph.proofs.Public.{make_object, in_place, with_free}
 use Rattle.gc_graph.specs.declared.command.Op.{Op}
-use Rattle.gc_graph.specs.declared.command.Op.TheVariants as ops
 use Rattle.gc_graph.specs.declared.reply.Reply.{Reply}
-use Rattle.gc_graph.specs.declared.reply.Reply.TheVariants.{Full, Made, Done, Saw}
-use Rattle.gc_graph.specs.declared.reply.View.{View}
+use Rattle.gc_graph.specs.declared.reply.Reply.TheVariants.{Full, Made, Done}
 use Rattle.gc_words.specs.Word.{value_of, word_of}
 use Rattle.gc_words.specs.Space.{CanPlace, end_of, free_in, with_object}
 use Rattle.gc_words.specs.declared.header.Header.{Header}
@@ -20,7 +17,6 @@ use Rattle.gc_heap.proofs.Views.{meaning}
 use Rattle.gc_heap.specs.Heap.{HeapWords, IsHeap, graph_in, roomy_in}
 use Rattle.gc_heap.specs.Commands.{Performs}
 use Rattle.gc_heap.proofs.Links.{links_kept}
-use Rattle.gc_heap.proofs.Commands.{at_root}
 
 -- a root takes a word
 pub took_root : (h new : HeapWords) (m : ℕ) (op : Op) (p w : ℕ) (v : Value) (reply : Reply) → (MakesObject op → ⊥)
@@ -28,10 +24,9 @@ pub took_root : (h new : HeapWords) (m : ℕ) (op : Op) (p w : ℕ) (v : Value) 
     → Performs h m op reply new
 took_root h new m op p w v reply makes_none steps value done after = grind (arith, common_steps, graph_root, in_place, with_free, links_kept)
 
--- the value of a root is read
-pub looked : (h : HeapWords) (m : ℕ) (op : Op) (s : SlotName) (p w : ℕ) (view : View) → op ≡ ops.Look s → p ≡ place s m → w ≡ slice_index h.roots p → view ≡ view_of (graph_in h).objects (value_of w)
-    → roomy_step (roomy_in h) m op (end_of h.space) ≡ (Saw view, roomy_in h)
-looked h m op s p w view is at read seen = grind (arith, common_steps, at_root, in_place)
+-- a command that takes the same step as another
+pub same_step : (old new : HeapWords) (m : ℕ) (op by : Op) (reply : Reply) → ((s : Roomy) (name : ℕ) → roomy_step s m by name ≡ roomy_step s m op name) → Performs old m by reply new → Performs old m op reply new
+same_step old new m op by reply same p = record { step = sym (same (roomy_in old) (end_of old.space)) ∙ p.step; links = p.links; size = p.size; mutators = p.mutators }
 
 -- a new object
 abbrev pub with_new : HeapWords → ℕ → Header → HeapWords

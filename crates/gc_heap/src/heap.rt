@@ -1,6 +1,5 @@
 ghost use Rattle.std.specs.Prelude.{◌≡◌};
 
-mod commands;
 mod filling;
 mod places;
 
@@ -60,6 +59,7 @@ impl Heap {
     ghost use Rattle.gc_words.specs.Closed.{IsRootWord};
     ghost use Rattle.gc_words.specs.Views as views;
     ghost use Rattle.gc_heap.specs.Internal.Taken.{taken_reply, IsTakenWord};
+    ghost use Rattle.gc_heap.specs.Commands.{Performs};
     ghost use Rattle.gc_heap.specs.Heap.{IsHeap, KeepsLinks, empty_heap, image_of, graph_in, roomy_in, extra_roots_in};
     ghost use Rattle.gc_heap.specs.ExtraRoots.{CanOpen, opening_with};
     ghost use Rattle.gc_heap.specs.Filling.{TakesFields, TakesNumbers};
@@ -199,17 +199,37 @@ impl Heap {
         ensures mutators { self.new.mutators ≡ self.old.mutators }
         ensures sound { IsHeap self.new }
     {
+        self.perform(m, op)
+    }
+
+    // Performs a command by the places of its slots.
+    fn perform(&mut self, m: u8, op: &Op) -> Reply
+        requires { m < self.old.mutators }
+        ensures performs { Performs self.old m op.now result self.new }
+        ensures sound { IsHeap self.new }
+    {
         match *op {
-            Op::New { d, kind, len } => self.new_object(m, d, kind, len),
-            Op::NewRaw { d, kind, len } => self.new_raw(m, d, kind, len),
-            Op::Num { d, n } => self.num(m, d, n),
-            Op::Nil { d } => self.nil(m, d),
-            Op::Move { d, s } => self.move_slot(m, d, s),
-            Op::Get { d, s, i } => self.get(m, d, s, i),
-            Op::Put { s, i, t } => self.put(m, s, i, t),
-            Op::Same { s, t } => self.same(m, s, t),
-            Op::Look { s } => self.look(m, s),
+            Op::New { d, kind, len } => self.new_at_root(self.place(m, d), kind, len),
+            Op::NewRaw { d, kind, len } => self.new_raw_at_root(self.place(m, d), kind, len),
+            Op::Num { d, n } => self.num_root(self.place(m, d), n),
+            Op::Nil { d } => self.nil_root(self.place(m, d)),
+            Op::Move { d, s } => self.copy_root(self.place(m, d), self.place(m, s)),
+            Op::Get { d, s, i } => self.get_root(self.place(m, d), self.place(m, s), i),
+            Op::Put { s, i, t } => self.put_root(self.place(m, s), i, self.place(m, t)),
+            Op::Same { s, t } => self.same_root(self.place(m, s), self.place(m, t)),
+            Op::Look { s } => self.look_root(self.place(m, s)),
         }
+    }
+
+    // Returns the place of mutator `m`'s slot in the list of roots.
+    fn place(&self, m: u8, slot: Slot) -> u32
+        requires { m < self.now.mutators }
+        ensures place { result ≡ place_of slot m }
+        ensures root { result < length self.now.roots }
+    {
+        // Here the prover learns how many roots there are.
+        let _ = &self.roots;
+        slot.place(m) as u32
     }
 
     /// Writes the link word of the object that starts at `old`.

@@ -29,38 +29,15 @@ impl Collection {
         ensures mutators { heap.new.mutators ≡ heap.old.mutators }
         ensures spare { spare_of self.old m ≤ spare_of self.new m + 1 }
     {
-        let (reply, _) = self.put_noted(heap, m, s, i, t);
-        reply
-    }
-
-    /// The same. Also returns the entry that it logged, so that the caller can tell a monitor of the field.
-    #[inline(always)]
-    pub fn put_noted(
-        &mut self,
-        heap: &mut Heap,
-        m: u8,
-        s: Slot,
-        i: u16,
-        t: Slot,
-    ) -> (Reply, Option<LogEntry>)
-        requires belongs { BelongsTo heap.old self.old }
-        requires mutator { m < heap.old.mutators }
-        requires room { 1 ≤ spare_of self.old m }
-        ensures step { mutate (open_state heap.old self.old) m (Op.Put s i t) ≡ (result.0, open_state heap.new self.new) }
-        ensures entry { option_to_list (option_map entry_in result.1) ≡ written (graph_in heap.old) m (Op.Put s i t) result.0 }
-        ensures belongs { BelongsTo heap.new self.new }
-        ensures epoch { self.new.epoch ≡ self.old.epoch }
-        ensures mutators { heap.new.mutators ≡ heap.old.mutators }
-        ensures spare { spare_of self.old m ≤ spare_of self.new m + 1 }
-    {
         // Here the prover learns that the heap is sound, and how many roots there are.
         let _ = heap.space();
         let _ = heap.root_places();
-        self.put_root(heap, m, s.place(m) as u32, i, t.place(m) as u32)
+        let (reply, _) = self.put_root(heap, m, s.place(m) as u32, i, t.place(m) as u32);
+        reply
     }
 
-    /// Performs mutator `m`'s `Put` on roots by their places, and logs the field if it was written. Also returns the entry that it logged. Needs room
-    /// in the log.
+    /// Performs mutator `m`'s `Put` on roots by their places, and logs the field if it was written. Also returns the entry that it logged, so that
+    /// the caller can tell a monitor of the field. Needs room in the log.
     #[inline(always)]
     pub fn put_root(
         &mut self,

@@ -20,22 +20,6 @@ use gc_graph::{Reply, Slot};
 use gc_words::{Addr, Header, OldAddr};
 
 impl Heap {
-    /// Performs a `Put` of `t` into field `i` of the object that `d` refers to. The object is known to take it, so neither `d` nor
-    /// the object is read, and the reply is `Done`.
-    #[inline(always)]
-    pub fn fill_field(&mut self, m: u8, d: Slot, object: OldAddr, i: u16, t: Slot) -> Reply
-        requires mutator { m < self.old.mutators }
-        requires field { (len : ℕ) × TakesFields self.old (place d m) object.0 len × (i < len) }
-        ensures done { result ≡ Reply.Done }
-        ensures performs { Performs self.old m (Op.Put d i t) result self.new }
-        ensures fields { (len : ℕ) → TakesFields self.old (place d m) object.0 len → TakesFields self.new (place d m) object.0 len }
-        ensures sound { IsHeap self.new }
-    {
-        // Here the prover learns how many roots there are.
-        let _ = &self.roots;
-        self.fill_at(d.place(m), object, i, t.place(m))
-    }
-
     /// Performs a `Put` of root `t` into field `i` of the object that root `d` refers to. The object is known to take it, so neither root `d` nor the
     /// object is read, and the reply is `Done`.
     #[inline(always)]

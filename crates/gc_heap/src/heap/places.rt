@@ -1,5 +1,5 @@
 //! Commands on roots by their places in the list of roots: first the shared slots, then each mutator's own, then the extra roots. Each is the command
-//! of any mutator, for whom the root has the name `root_at`, but for `set_root` and `refer_root`. None allocates.
+//! of any mutator, for whom the root has the name `root_at`, but for `set_root` and `refer_root`. `Heap::apply` calls them. None allocates.
 
 ghost use Rattle.std.specs.Prelude.{◌≡◌, ◌≢◌, ◌<◌, ℕ, length, IfSome, IsTrue};
 ghost use Rattle.std.specs.Option.{option_map};
@@ -125,6 +125,20 @@ impl Heap {
             Taken::NoObject => Fetched::NoObject,
             Taken::NoField => Fetched::NoField,
             Taken::Word(word) => fetched(&self.space, word),
+        }
+    }
+
+    /// Does the same, and replies with what the machine's `Get` shows: `Saw`, `NoObject` or `NoField`.
+    pub(crate) fn get_root(&mut self, d: u32, s: u32, i: u16) -> Reply
+        requires taker { d < length self.old.roots }
+        requires giver { s < length self.old.roots }
+        ensures performs { (m : ℕ) → Performs self.old m (Op.Get (root_at d) (root_at s) i) result self.new }
+        ensures sound { IsHeap self.new }
+    {
+        match self.take_root(d, s, i) {
+            Taken::NoObject => Reply::NoObject,
+            Taken::NoField => Reply::NoField,
+            Taken::Word(word) => Reply::Saw(view(&self.space, word)),
         }
     }
 

@@ -88,25 +88,23 @@ fn extra_roots_survive_a_flip(rt: HostRuntime) -> Result<(), Fail> {
     Ok(())
 }
 
+/// By their places: 16 and 32 are the first slots of the two mutators, and 49 is extra root 1.
 #[test]
 fn extra_roots_of_a_heap(rt: HostRuntime) -> Result<(), Fail> {
-    let r0 = own(0);
     let mut heap = Heap::open_with(rt.alloc(), &with_extra_roots(2))?;
     assert_eq!(rt; heap.extra_roots(), 2);
     assert_eq!(rt; heap.roots().len(), 50);
-    assert!(rt; 1 < heap.mutators());
-    assert_eq!(rt; heap.new_object(1, r0, 3, 0), Reply::Made);
-    assert!(rt; 1 < heap.mutators());
-    assert!(rt; 1 < heap.extra_roots());
-    assert_eq!(rt; heap.store(1, 1, r0), Reply::Done);
+    assert!(rt; 32 < heap.root_places());
+    assert_eq!(rt; heap.new_at_root(32, 3, 0), Reply::Made);
+    assert!(rt; 49 < heap.root_places());
+    assert_eq!(rt; heap.copy_root(49, 32), Reply::Done);
     assert_eq!(rt; heap.roots().get(49).copied(), Some(2));
     assert_eq!(rt; heap.roots().get(48).copied(), Some(0));
-    assert!(rt; 0 < heap.mutators());
-    assert!(rt; 1 < heap.extra_roots());
-    assert_eq!(rt; heap.load(0, r0, 1), Reply::Done);
+    assert!(rt; 49 < heap.root_places());
+    assert_eq!(rt; heap.copy_root(16, 49), Reply::Done);
     assert_eq!(rt; heap.roots().get(16).copied(), Some(2));
-    assert!(rt; 1 < heap.extra_roots());
-    assert_eq!(rt; heap.clear(1), Reply::Done);
+    assert!(rt; 49 < heap.root_places());
+    assert_eq!(rt; heap.nil_root(49), Reply::Done);
     assert_eq!(rt; heap.roots().get(49).copied(), Some(0));
     Ok(())
 }

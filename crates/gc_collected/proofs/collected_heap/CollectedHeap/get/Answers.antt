@@ -1,14 +1,9 @@
--- A `Get` writes one slot and no field, so an open collection stays, and what is known of extra roots is still true.
-use Rattle.std.proofs.Common.{refl, arith}
-use Rattle.gc_graph.specs.declared.command.Op.TheVariants.{Get}
-use Rattle.gc_collected.proofs.Core.{core_is}
-use Rattle.gc_collected.proofs.Followed.{slot_followed}
-use Rattle.gc_collected.proofs.OtherCommands.{said}
+-- The slot holds the value that was found, so a look at it sees what the reply to the `Get` shows.
+use Rattle.std.proofs.Common.{◌<◌, length, subst}
+use Rattle.gc_collected.proofs.GetSeen.{get_shown}
 use Rattle.gc_collected.proofs.collected_heap.CollectedHeap.get.Goals as goal
 
-pub invariant_of-self : goal.invariant_of-self
-invariant_of-self c = slot_followed c.args.self.now.core c.self.inside.epoch c.self.inside.known c.self.inside.heap c.get.new.self c.self.inside.collection c.args.m (Get c.args.d c.args.s c.args.i) c.get.result c.self.inside.watch c.self.inside.along (core_is c.self.view_is) c.requires c.is_sound.ensures.open c.space.ensures.sound c.get.ensures.performs
-    (λ none. none) (omega (arith, c.index.ensures.value, c.index.ensures.bound)) refl c.self.invariant
-
-pub returns-clause-step : goal.returns-clause-step
-returns-clause-step c = said c.args.self.now.core c.self.inside.epoch c.self.inside.heap c.get.new.self c.self.inside.collection c.args.m (Get c.args.d c.args.s c.args.i) c.get.result (core_is c.self.view_is) c.self.invariant.0.0 c.space.ensures.sound (λ none. none) c.get.ensures.performs
+pub returns-in_default-clause-step : goal.returns-in_default-clause-step
+returns-in_default-clause-step c =
+    let got = c.fetch.ensures.fetches in
+    get_shown c.args.self.now.core c.fetch.new.self.core c.args.m c.args.i c.args.d c.args.s got.0 c.look.result c.fetch.result (subst (λ p. p < length c.args.self.now.core.heap.graph.roots) c.place.ensures.place c.place.ensures.root) got.1 got.2 c.look.ensures c.in_default.not-NoObject c.in_default.not-NoField

@@ -38,7 +38,7 @@ invariant_of-self-2 g c =
     let numbers = g.R.NumberRow.numbers c.args.row.now (sources_at (graph_in heap) (g.R.NumberRow.names c.args.row.now)) in
     let op = NewRaw (root_at c.args.d) c.args.kind (length numbers) in
     let within = subst (λ (s : State). c.args.d < length s.heap.graph.roots) (sym (same_state heap c.self.inside.collection p c.args.self.now.core c.reserve_in.ensures.same (core_is c.self.view_is))) c.requires.object in
-    let slots = c.root_count.ensures ∙ ap roots_of (c.mutators.ensures.value ∙ all.ensures.mutators) in
+    let slots = c.root_count-slots.ensures ∙ ap roots_of (c.mutators.ensures.value ∙ all.ensures.mutators) in
     let stored : StoredIf c.has_made.result was now (roots_of heap.mutators) c.args.d = subst (λ n. StoredIf c.has_made.result was now n c.args.d) slots (record { written = c.took_if.ensures.written; none = c.took_if.ensures.none }) in
     let k = still_known c.self.inside.epoch was heap c.self.inside.collection p c.self.inside.watch c.self.inside.along c.reserve_in.ensures.same c.reserve_in.ensures.fits c.self.invariant in
     let knows = known_if c.has_made.result was now s c.args.m c.args.d op refl within stored
@@ -63,7 +63,7 @@ returns-clause-looks g c =
     let all = c.make_numbers-made in
     subst (λ n. AsksForLook c.args.d n (roots_left_in all.new.collection now.twins)) (left_is c.self.view_is)
     (subst (AsksForLook c.args.d (roots_left_in c.self.inside.collection was.twins)) (sym (opened c.self.inside.heap all.new.heap c.self.inside.collection c.reserve_in.new.collection all.new.collection c.args.m c.args.kind c.args.d _ all.result now.twins c.reserve_in.ensures.same all.ensures.step))
-    (asks_if c.has_made.result c.self.inside.collection was now c.root_count.result c.args.d (record { written = c.took_if.ensures.written; none = c.took_if.ensures.none })))
+    (asks_if c.has_made.result c.self.inside.collection was now c.root_count-slots.result c.args.d (record { written = c.took_if.ensures.written; none = c.took_if.ensures.none })))
 
 pub returns-clause-full : goal.returns-clause-full
 returns-clause-full g c = λ full.
@@ -71,5 +71,5 @@ returns-clause-full g c = λ full.
     let now = c.took_if.new.self in
     let all = c.make_numbers-made in
     opened c.self.inside.heap all.new.heap c.self.inside.collection c.reserve_in.new.collection all.new.collection c.args.m c.args.kind c.args.d _ all.result now.twins c.reserve_in.ensures.same all.ensures.step
-    ∙ same_if c.has_made.result c.self.inside.collection was now c.root_count.result c.args.d (record { written = c.took_if.ensures.written; none = c.took_if.ensures.none }) (not_made c.has_made.result (λ made. c.has_made.ensures.made made full))
+    ∙ same_if c.has_made.result c.self.inside.collection was now c.root_count-slots.result c.args.d (record { written = c.took_if.ensures.written; none = c.took_if.ensures.none }) (not_made c.has_made.result (λ made. c.has_made.ensures.made made full))
     ∙ left_is c.self.view_is

@@ -29,7 +29,7 @@ invariant_of-self c =
     let before = state_of heap (option_map collection_in o) in
     let after = state_of new (option_map collection_in o) in
     let within = subst (λ (s : State). d < length s.heap.graph.roots) (sym (core_is c.self.view_is)) c.requires in
-    let taken = subst (λ n. HasStored c.self.inside.known c.took.new.self 0 (max c.self.inside.known.twins.used (d - n + 1)) n d) (c.root_count.ensures ∙ ap roots_of c.mutators.ensures.value) c.took.ensures in
+    let taken = subst (λ n. HasStored c.self.inside.known c.took.new.self 0 (max c.self.inside.known.twins.used (d - n + 1)) n d) (c.root_count-slots.ensures ∙ ap roots_of c.mutators.ensures.value) c.took.ensures in
     let is = valued heap new d v c.refer_root.ensures.space c.refer_root.ensures.graph c.refer_root.ensures.mutators (option_map collection_in o) in
     let known = valued_known c.self.inside.known c.took.new.self before d v within taken (c.self.invariant.0.1, c.self.invariant.0.2) in (
       (
@@ -45,4 +45,4 @@ returns-clause-step = grind (arith, common_steps, is_some, refers, valued)
 
 pub returns-clause-looks : goal.returns-clause-looks
 returns-clause-looks c = subst (λ n. AsksForLook c.args.d n (roots_left_in c.self.inside.collection c.took.new.self.twins)) (left_is c.self.view_is)
-    (stored_asks c.self.inside.collection c.self.inside.known c.took.new.self 0 c.root_count.result c.args.d c.took.ensures)
+    (stored_asks c.self.inside.collection c.self.inside.known c.took.new.self 0 c.root_count-slots.result c.args.d c.took.ensures)
