@@ -76,7 +76,6 @@ pub(crate) fn hold(commander: Commander, copier: Copier) -> Held
     ensures begun { result.copier.seat.me.0.mine.base ≡ commander.mutator.seat.me.0.mine.base }
     ensures row { result.copier.seat.table_id ≡ copier.seat.table_id }
     ensures log { result.copier.seat.me.0.theirs ≡ record copier.seat.me.0.theirs { due = commander.mutator.log.items } }
-    ensures due { result.copier.due.items ≡ commander.mutator.log.items }
 {
     let Commander {
         mutator,
@@ -230,7 +229,6 @@ impl Held {
         ensures known { known_to result.1 ≡ known_to self.copier }
         ensures begun { beginning_of result.0 ≡ beginning_held self }
         ensures log { log_length result.0 ≡ 0 }
-        ensures empty { result.0.mutator.log.items ≡ [] }
         ensures row { (result.0.mutator.seat.table_id ≡ result.1.seat.table_id) × (result.1.seat.table_id ≡ self.copier.seat.table_id) }
     {
         let Held {

@@ -1,5 +1,5 @@
 //! The mutator's thread: what gc_words' `Space` offers, over the words of the table.
-ghost use Rattle.std.specs.Prelude.{◌≡◌, ◌+◌, ◌-◌, ◌*◌, ◌^◌, ◌/◌, ◌<◌, ◌≤◌, true, false, [], ◌∷◌, ◌++◌, length};
+ghost use Rattle.std.specs.Prelude.{◌≡◌, ◌+◌, ◌-◌, ◌*◌, ◌^◌, ◌/◌, ◌<◌, ◌≤◌, true, false, [], ◌∷◌, length};
 ghost use Rattle.gc_concurrent.specs.Internal.Starts.{TellsStarts};
 ghost use Rattle.std.specs.Arc.{arc_value};
 
@@ -116,7 +116,6 @@ impl Mutator {
         ensures logging { self.new.logs ≡ self.old.logs }
         ensures room { vec_capacity self.new.log ≡ vec_capacity self.old.log }
         ensures entries { vec_len self.new.log ≤ vec_len self.old.log + 1 }
-        ensures logged { self.old.logs ≡ true → self.new.log.items ≡ self.old.log.items ++ (at.0, i) ∷ [] }
         ensures grows { length self.new.seat.me.0.mine.log ≤ length self.old.seat.me.0.mine.log + 1 }
         ensures row { self.new.seat.table_id ≡ self.old.seat.table_id }
         ensures size { self.new.size ≡ self.old.size }
