@@ -29,7 +29,7 @@ pub use handshake::{
     Asking, Collector, Holding, Runner, Unflipped, Waiting, open, open_checked, open_with,
 };
 pub use held::NoFlip;
-pub use logging::{logs_are_bounded, what_is_held_was_left};
+pub use logging::logs_are_bounded;
 pub use moves::{Moves, flips_tell_moves};
 pub use runs::{CutShort, mutate, mutate_all, runs_reply_alike, what_is_shown_stays};
 pub use turns::Turns;

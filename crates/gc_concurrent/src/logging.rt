@@ -21,6 +21,6 @@ pub fn logs_are_bounded()
 {}
 
 /// Between two steps of a handshake, what its collector holds is what its mutator left in it, with as long a log.
-pub fn what_is_held_was_left()
+pub(crate) fn what_is_held_was_left()
     ensures { (s : HandshakeState) (waiting : Waiting) (holding : Holding) → IsHandshake s → IsSeatOf s waiting.seat.me.0 → IsSeatOf s holding.seat.me.0 → situation_taken holding ≡ situation_left waiting }
 {}
