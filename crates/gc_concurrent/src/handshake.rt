@@ -1,5 +1,5 @@
 //! The handshake through which a mutator goes to its collector and back. No call here waits but `poll` and `wait`.
-ghost use Rattle.std.specs.Prelude.{◌≡◌, ◌⊎◌, ◌≢◌, ℕ, ◌<◌, ◌≤◌, true, false, [], ◌∷◌, length, map, replicate, IfOk, MatchResult};
+ghost use Rattle.std.specs.Prelude.{◌≡◌, ◌⊎◌, ◌≢◌, ℕ, ◌+◌, ◌*◌, ◌<◌, ◌≤◌, true, false, [], ◌∷◌, length, map, replicate, IfOk, MatchResult};
 ghost use Rattle.std.specs.Arc.{arc_value};
 ghost use Rattle.gc_concurrent.specs.Holders.{beginning_held, beginning_of, cells_read_by, heap_in, known_to, log_length, logs_writes, moves_held, moves_in, situation_in};
 ghost use Rattle.gc_concurrent.specs.Heaps.{GoesOnIn};
@@ -8,7 +8,7 @@ ghost use Rattle.gc_concurrent.specs.Internal.Handshakes.{hands};
 ghost use Rattle.gc_concurrent.specs.Holders.{cells_of};
 ghost use Rattle.gc_concurrent.specs.Heaps.{heap_of};
 ghost use Rattle.gc_graph.specs.Graph.{opening};
-ghost use Rattle.gc_words.specs.Space.{empty_space};
+ghost use Rattle.gc_words.specs.Space.{empty_space, end_of};
 ghost use Rattle.gc_heap.specs.ExtraRoots.{most_extra_roots};
 ghost use Rattle.gc_heap.specs.Heap.{empty_heap, graph_in};
 ghost use Rattle.gc_concurrent.specs.Ends.{begun_with, its, opening_theirs, Theirs};
@@ -289,7 +289,8 @@ impl Collector {
 impl Asking {
     ghost use Rattle.gc_concurrent.specs.Waiters.{situation_taken};
     ghost use Rattle.gc_concurrent.specs.Works.{KeepsBeginning, TakesLog, WhereDone, WhereNoRoom};
-    ghost use Rattle.gc_concurrent.specs.Nearing.{GetsOn};
+    ghost use Rattle.gc_concurrent.specs.Holders.{heap_held};
+    ghost use Rattle.gc_concurrent.specs.Nearing.{GetsOn, steps_ahead};
 
     /// Performs one step, beside the mutator.
     pub fn work(&mut self) -> Work
@@ -306,6 +307,7 @@ impl Asking {
     pub fn take(self) -> Result<Holding, Asking>
         ensures log { MatchResult result (λ holding. TakesLog (known_to self.copier) (known_to holding.held.copier)) (λ asking. asking.copier ≡ self.copier) }
         ensures most { IfOk result (λ holding. length (known_to holding.held.copier).due ≡ (situation_taken holding).logged) }
+        ensures steps { IfOk result (λ holding. steps_ahead (end_of (heap_held holding.held).space) (known_to holding.held.copier) ≤ 4 * end_of (heap_held holding.held).space + 2 * (situation_taken holding).logged + 1) }
         ensures turns { MatchResult result (λ holding. holding.turns ≡ self.turns) (λ asking. asking.turns ≡ self.turns) }
     {
         if !self.copier.has_nothing_due() {

@@ -9,7 +9,7 @@ ghost use Rattle.gc_words.specs.Closed.{IsRootWord};
 ghost use Rattle.gc_words.specs.Space.{end_of};
 ghost use Rattle.gc_heap.specs.ExtraRoots.{most_extra_roots};
 ghost use Rattle.gc_heap.specs.Heap.{IsHeap, empty_heap, graph_in};
-ghost use Rattle.gc_model.specs.State.{new_graph, pairs_of, replica_of};
+ghost use Rattle.gc_model.specs.State.{new_end, new_graph, pairs_of, replica_of};
 ghost use Rattle.gc_model.specs.Steps.{scan_done};
 ghost use Rattle.gc_model.specs.Members.{In};
 ghost use Rattle.gc_concurrent.specs.Heaps.{heap_of};
@@ -76,6 +76,7 @@ pub(crate) fn hold(commander: Commander, copier: Copier) -> Held
     ensures begun { result.copier.seat.me.0.mine.base ≡ commander.mutator.seat.me.0.mine.base }
     ensures row { result.copier.seat.table_id ≡ copier.seat.table_id }
     ensures log { result.copier.seat.me.0.theirs ≡ record copier.seat.me.0.theirs { due = commander.mutator.log.items } }
+    ensures fits { new_end (its result.copier.seat.me.0.theirs) ≤ end_of result.copier.seat.me.0.mine.space }
 {
     let Commander {
         mutator,
