@@ -12,6 +12,9 @@ from .functions import item_at
 
 PARTS = ("src", "specs", "proofs")
 GOAL = re.compile(r"note: (src/[\w/]+\.rt):(\d+):\d+: it is not proved.*?\(`([^`]+)`\)")
+# A ghost clause of a type, where a body makes or changes a value of it. Where the prover tells only that some clause does, nothing is shown: it then looks
+# for the proofs of all at once, as of a goal under a new name.
+TYPE_GOAL = re.compile(r"note: (src/[\w/]+\.rt):(\d+):\d+: `search` .*?\(`(invariant_of-[^`]*-clause-\w+)`\)")
 UNNAMED_GOAL = re.compile(r"note: (src/[\w/]+\.rt):(\d+):\d+: it is not proved")
 ERROR = re.compile(r"\./(proofs/([\w+/]+)/(\w+)\.antt):(\d+):\d+: error: (.*)")
 LOST = re.compile(r"has no field|can be named|is not in scope|has no `|is no name")
@@ -66,10 +69,10 @@ def found_in(output, folder, items):
     """Returns what a check printed: open goals, and answers that no longer fit, of these items or of others."""
     found = []
     for line, message in messages_in(output):
-        note, error = GOAL.match(line) or UNNAMED_GOAL.match(line), ERROR.match(line)
+        note, error = GOAL.match(line) or TYPE_GOAL.match(line) or UNNAMED_GOAL.match(line), ERROR.match(line)
         if note:
             item = item_of_note(folder, note.group(1), int(note.group(2)))
-            found.append(Goal(item, line, note.group(3) if note.re is GOAL else "", IS_FALSE in line, answered_kinds(folder, item)))
+            found.append(Goal(item, line, "" if note.re is UNNAMED_GOAL else note.group(3), IS_FALSE in line, answered_kinds(folder, item)))
         elif error and not FOLLOWS.search(error.group(5)):
             owners = [item for item in items if item.name and item.has_proofs_in(error.group(2))]
             owner, answered = owners[0] if owners else None, answered_at(folder, error.group(1), int(error.group(4)))

@@ -7,6 +7,9 @@ invariant holds before it and is kept, or that its measure decreases. Invariants
 body with another loop needs others. Where such a goal is open, no goal of that function counts, since those behind the loop rest on an
 invariant that is another loop's.
 
+A ghost clause of a type is a clause of each function that makes or changes a value of that type: callers and other functions rest on it, and no edit
+changes it. So its goal counts in such a function as one of the function's own clauses does.
+
 There are four ways, from the strongest to the weakest, and the file of an edit names the one that holds it, or a weaker one:
 
 - 'refused by values': the prover found values for which the goal is false;

@@ -12,7 +12,7 @@ use Rattle.atomic_table.proofs.Lists.{at_set, set_here, set_again, exchanged}
 use Rattle.gc_concurrent.specs.declared.commands.Commander.{Commander}
 use Rattle.gc_concurrent.specs.Holders.{situation_in}
 use Rattle.gc_concurrent.specs.Moves.{StaysOrFlips}
-use Rattle.gc_concurrent.specs.Internal.Handshakes.{Goer, Keeper, HandshakeKnown, Stage, fresh, running, asked, handed, taken, finished, Slots, HandshakeStands, HandshakeSeated, IsHandshake, handshake_opening, only_goes, only_keeps, HandshakeSat, parked, resumed, in_phase, took_it, let_go, tells_start, tells_park, tells_resume, tells_ask, tells_hand_over, tells_withdraw, tells_go}
+use Rattle.gc_concurrent.specs.Internal.Handshakes.{Goer, Keeper, HandshakeKnown, Stage, fresh, running, asked, handed, taken, finished, Slots, HandshakeStands, HandshakeSeated, IsHandshake, IsSeatOf, handshake_opening, only_goes, only_keeps, HandshakeSat, parked, resumed, in_phase, took_it, let_go, tells_start, tells_park, tells_resume, tells_ask, tells_hand_over, tells_withdraw, tells_go}
 use Rattle.gc_concurrent.specs.Holders.{cells_of}
 
 abbrev pub GSt : Type 0
@@ -281,6 +281,14 @@ goes_rule slots id v c keeps' phase follows s r _ here _ =
   where
     first : (d : Commander) (more : List (ℕ × Option Commander)) → ◌≡◌ {A = List (ℕ × Option Commander)} ((0, Some c) ∷ []) ((0, Some d) ∷ more) → c ≡ d
     first d more is = let p : ◌≡◌ {A = ℕ × Option Commander} (0, Some c) (0, Some d) = cc is in let q : Some c ≡ Some d = ap (λ (x : ℕ × Option Commander). x.1) p in cc q
+
+-- what is held was left
+pub held_as_left : (s : GSt) (v w : HandshakeKnown) → IsHandshake s → IsSeatOf s v → IsSeatOf s w → v.goes ≡ true → w.keeps ≡ true → w.keeper.phase ≡ 2 → w.keeper.took ≡ v.goer.left
+held_as_left s v w r left held goes keeps' phase =
+    let g : v.goer ≡ r.goer = ((r.seats left.0 v left.1).0 goes).1 in
+    let k : w.keeper ≡ r.keeper = ((r.seats held.0 w held.1).1 keeps').1 in
+    taken_only (w.keeper.took ≡ v.goer.left) r.stage (get_or s.words 0 0) r.goer r.keeper s.homes (ap (λ (x : Keeper). x.phase) (sym k) ∙ phase) r.fits
+    (λ _ took. ap (λ (x : Keeper). x.took) k ∙ took ∙ sym (ap (λ (x : Goer). x.left) g))
 
 -- ---- at first
 

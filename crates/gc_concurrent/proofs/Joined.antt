@@ -1,5 +1,5 @@
 -- Steps with both ends at hand: the log changes hands, and the targets of the mutator's roots are wanted.
-use Rattle.std.proofs.Common.{◌≡◌, ℕ, ap, true, true≢false, List, [], ◌∷◌, ◌++◌, set, refl, sym, ◌∙◌, subst, inl, inr, ⊎_elim, arith}
+use Rattle.std.proofs.Common.{◌≡◌, ◌≤◌, ℕ, ap, true, true≢false, List, [], ◌∷◌, ◌++◌, set, refl, sym, ◌∙◌, subst, inl, inr, ⊎_elim, arith}
 use Rattle.std.specs.Prelude.{is_some, Some}
 use mathlib.Core.Option.{none, some}
 use lib.ListN.{get_elem?}
@@ -9,10 +9,11 @@ use Rattle.gc_graph.specs.Graph.{Object, Ref, lookup}
 use Rattle.gc_words.specs.Word.{value_of}
 use Rattle.gc_words.specs.Image.{block_at, objects_of}
 use Rattle.gc_words.specs.Closed.{IsRootWord, RefersToStart}
-use Rattle.gc_model.specs.State.{Collection}
+use Rattle.gc_model.specs.State.{Collection, new_end}
+use Rattle.gc_words.specs.Space.{end_of}
 use Rattle.gc_model.specs.Belonging.{IsOpened, IsDue, IsLogged}
 use Rattle.gc_model.proofs.Public.{its_replicas, belongs_from, replicas_due, in_left, in_right}
-use Rattle.gc_concurrent.specs.Ends.{Known, Mine, Theirs}
+use Rattle.gc_concurrent.specs.Ends.{Known, Mine, Theirs, its}
 use Rattle.gc_concurrent.specs.Unreachable.{MayBeCopied}
 use Rattle.gc_concurrent.specs.Internal.Plans.{collection_of, plan}
 use Rattle.gc_concurrent.specs.Internal.Rule.{AreSeated, CatchesUp, IsConcurrent, Seated, Sat, StartsThere, logs_taken, root_wanted, wants, tells_take, tells_root}
@@ -69,7 +70,7 @@ originals_start : (m : Mine) (t : Theirs) → IsOpened (plan m t) (collection_of
 originals_start m t h r there = start_of m.space.words r.original (ap is_some ((h.belongs).replicas r there).found)
 
 take_at : (slots size : ℕ) (s : St) (r : IsConcurrent size s) (k id : ℕ) (me : Sat) → get_elem? s.views id ≡ some me.0 → me.0.writes ≡ true → me.0.copies ≡ true
-    → Leaves size s k id me (λ n m. (m ≡ (logs_taken me.0, me.1)) × (me.0.theirs.base ≡ me.0.mine.base.heap) × CatchesUp me.0 × StartsThere me.0.mine me.0.theirs)
+    → Leaves size s k id me (λ n m. (m ≡ (logs_taken me.0, me.1)) × (me.0.theirs.base ≡ me.0.mine.base.heap) × CatchesUp me.0 × StartsThere me.0.mine me.0.theirs × (new_end (its me.0.theirs) ≤ end_of me.0.mine.space))
 take_at slots size s r k id me seat writes copies =
     let own = r.seats id me.0 seat in
     let mine : me.0.mine ≡ r.mine = ((own.0) writes).1 in
@@ -107,12 +108,13 @@ take_at slots size s r k id me seat writes copies =
         subst (λ (z : Mine × Theirs). z.1.base ≡ z.0.base.heap) (λ j. (sym mine j, sym theirs j)) r.carries.begun,
         catches_up size s r id me.0 seat writes copies,
         subst (λ (z : Mine × Theirs). StartsThere z.0 z.1) (λ j. (sym mine j, sym theirs j)) (originals_start r.mine r.theirs r.opened),
+        subst (λ (z : Mine × Theirs). new_end (its z.1) ≤ end_of z.0.space) (λ j. (sym mine j, sym theirs j)) r.fits,
       ),
     )
 
 pub takes_rule : (slots size k id : ℕ) (me : Sat) → me.0.writes ≡ true → me.0.copies ≡ true
     → Allows (IsConcurrent size) slots id me k (λ x. x) (tells_take (step slots k 0 0 none) me)
-takes_rule slots size k id me writes copies s r _ seat _ = loosely size s k id me (λ n m. (m ≡ (logs_taken me.0, me.1)) × (me.0.theirs.base ≡ me.0.mine.base.heap) × CatchesUp me.0 × StartsThere me.0.mine me.0.theirs) seat (take_at slots size s r k id me seat writes copies)
+takes_rule slots size k id me writes copies s r _ seat _ = loosely size s k id me (λ n m. (m ≡ (logs_taken me.0, me.1)) × (me.0.theirs.base ≡ me.0.mine.base.heap) × CatchesUp me.0 × StartsThere me.0.mine me.0.theirs × (new_end (its me.0.theirs) ≤ end_of me.0.mine.space)) seat (take_at slots size s r k id me seat writes copies)
 
 -- ---- roots
 

@@ -38,3 +38,4 @@ pub mod Running
 pub mod Reading
 pub mod Addressing
 pub mod Several
+pub mod Bounding

@@ -14,7 +14,7 @@ use Rattle.gc_copy.specs.Words.{place_told}
 use Rattle.gc_check.proofs.Public.{paths_agree}
 use Rattle.gc_heap.specs.Heap.{graph_in}
 use Rattle.gc_concurrent.specs.Ends.{Theirs, its}
-use Rattle.gc_concurrent.specs.Moves.{FlipsTo, MovesWords, Situation, StaysOrFlips, TellsPairs, half, moved_to}
+use Rattle.gc_concurrent.specs.Moves.{FlipsTo, MovesWords, Situation, Stays, StaysOrFlips, TellsPairs, half, moved_to}
 use Rattle.gc_concurrent.specs.Internal.Copiers.{Claims, HasOwnHalf}
 use Rattle.gc_concurrent.specs.Internal.Rule.{Loose}
 use Rattle.gc_concurrent.proofs.Halves.{original_own, told_own}
@@ -57,7 +57,7 @@ module _ (row : List ℕ) (t : Theirs) (claims : Claims row t) (loose : ∥ Loos
 
 -- ---- what a safepoint leaves
 
-pub stays_where_counted : (old new : Situation) → StaysOrFlips old new → old.moves.flips < 2 ^ 64 → new.moves.flips ≡ old.moves.flips → new ≡ old
+pub stays_where_counted : (old new : Situation) → StaysOrFlips old new → old.moves.flips < 2 ^ 64 → new.moves.flips ≡ old.moves.flips → Stays old new
 stays_where_counted old new (inl same) small count = same
 stays_where_counted old new (inr flip) small count = absurd (next_differs old.moves.flips small (sym flip.counted ∙ count))
   where

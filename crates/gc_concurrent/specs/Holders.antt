@@ -1,5 +1,5 @@
 -- What the types of the mutator's and the collector's side hold: a heap, and what the collector knows of it.
-use Rattle.std.specs.Prelude.{◌≡◌, ◌⊎◌, Bool}
+use Rattle.std.specs.Prelude.{◌≡◌, ◌⊎◌, ℕ, Bool, length}
 use Rattle.gc_heap.specs.Heap.{HeapWords, graph_in}
 use Rattle.gc_model.specs.Steps.{is_ready, roots_done}
 use Rattle.atomic_table.specs.Seated.{TableId}
@@ -24,9 +24,13 @@ moves_in c = c.moves
 abbrev pub beginning_of : Commander → Beginning
 beginning_of c = c.mutator.seat.me.0.mine.base
 
+-- the number of entries in the log of a mutator that runs
+abbrev pub log_length : Commander → ℕ
+log_length c = length c.mutator.seat.me.0.mine.log
+
 -- what it takes through a safepoint
 abbrev pub situation_in : Commander → Situation
-situation_in c = record { heap = heap_in c; moves = moves_in c; begun = beginning_of c }
+situation_in c = record { heap = heap_in c; moves = moves_in c; begun = beginning_of c; logged = log_length c }
 
 -- whether a mutator that runs logs its writes
 abbrev pub logs_writes : Commander → Bool

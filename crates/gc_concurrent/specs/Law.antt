@@ -67,6 +67,11 @@ AreAllReplies heap ops told = (s : Roomy) → Shows s.graph heap → HasRoom s (
 abbrev pub AreRepliesFromNothing : List Op → List Reply → Type 0
 AreRepliesFromNothing ops told = (size : ℕ) → HasRoom (opening_roomy size 1) (by_one ops) (length ops) → told ≡ replies (opening_roomy size 1) (by_one ops)
 
+-- These are the first replies of each such machine that has room for as many commands, and none is `Full`.
+pub record StandsFromNothing (ops : List Op) (told : List Reply) : Type 0 where
+  pub replies : (size : ℕ) → HasRoom (opening_roomy size 1) (by_one ops) (length told) → told ≡ take (length told) (replies (opening_roomy size 1) (by_one ops))
+  pub fine : HasNoFull told
+
 -- Each command was performed in a heap that shows what was shown before it, so after any number of safepoints and of commands that found no room; and
 -- it found room. After the last one there may be safepoints again.
 abbrev pub Ran : HeapWords → List Op → List Reply → HeapWords → Type 0

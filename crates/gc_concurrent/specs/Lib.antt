@@ -8,6 +8,7 @@ pub mod Machines
 pub mod Works
 pub mod Referring
 pub mod Nearing
+pub mod Logging
 pub mod Checking
 pub mod Turns
 pub mod Law

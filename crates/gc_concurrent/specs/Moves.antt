@@ -27,21 +27,27 @@ moved_to moves a = place_told (slice_index moves.row (half a))
 abbrev pub TellsPairs : Graph → List (ℕ × ℕ) → MovesWords → Type 0
 TellsPairs graph pairs moves = (a b : ℕ) → IsSome (lookup graph.objects a) → (moved_to moves a ≡ Some b) ↔ IsTrue (paired pairs a b)
 
--- what a mutator takes through a safepoint: its heap, what it knows of flips, and how the collection began
+-- what a mutator takes through a safepoint: its heap, what it knows of flips, how the collection began, and the number of entries in its log
 pub record Situation : Type 0 where
   pub heap : HeapWords
   pub moves : MovesWords
   pub begun : Beginning
+  pub logged : ℕ
 
 -- A flip leads from the one to the other. Some pairs of addresses make the graphs correspond, the row tells of each object of the old heap where it went
--- by these pairs, one more flip is counted, and a collection has just begun.
+-- by these pairs, one more flip is counted, a collection has just begun, and the log is empty.
 pub record FlipsTo (old new : Situation) : Type 0 where
   pub pairs : List (ℕ × ℕ)
   pub corresponding : Corresponding pairs (graph_in old.heap) (graph_in new.heap)
   pub moves : TellsPairs (graph_in old.heap) pairs new.moves
   pub counted : new.moves.flips ≡ (old.moves.flips + 1) % 2 ^ 64
   pub fresh : new.begun ≡ begun_with new.heap
+  pub taken : new.logged ≡ 0
 
--- The mutator finds all as it was, or after one flip.
+-- The mutator finds all as it was, but that the collector may have taken its log.
+abbrev pub Stays : Situation → Situation → Type 0
+Stays old new = (new ≡ old) ⊎ (new ≡ record old { logged = 0 })
+
+-- The mutator finds all so, or after one flip.
 abbrev pub StaysOrFlips : Situation → Situation → Type 0
-StaysOrFlips old new = (new ≡ old) ⊎ FlipsTo old new
+StaysOrFlips old new = Stays old new ⊎ FlipsTo old new

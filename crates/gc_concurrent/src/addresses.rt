@@ -7,7 +7,7 @@ ghost use Rattle.gc_graph.specs.declared.reply.Reply.{Reply};
 ghost use Rattle.gc_words.specs.Image.{is_start};
 ghost use Rattle.gc_words.specs.Views.{graph_value};
 ghost use Rattle.gc_heap.specs.Heap.{graph_in, roomy_in};
-ghost use Rattle.gc_concurrent.specs.Holders.{beginning_of, cells_of, heap_in, logs_writes, moves_in};
+ghost use Rattle.gc_concurrent.specs.Holders.{beginning_of, cells_of, heap_in, log_length, logs_writes, moves_in};
 ghost use Rattle.gc_concurrent.specs.Referring.{root_refers};
 
 use crate::commands::Commander;
@@ -41,6 +41,7 @@ impl Commander {
     pub fn view_at(&mut self, a: OldAddr) -> View
         ensures view { result ≡ view_of (graph_in (heap_in self.old)).objects (Ref a.0) }
         ensures heap { heap_in self.new ≡ heap_in self.old }
+        ensures log { log_length self.new ≡ log_length self.old }
         ensures cells { cells_of self.new ≡ cells_of self.old }
         ensures moves { moves_in self.new ≡ moves_in self.old }
         ensures begun { beginning_of self.new ≡ beginning_of self.old }
@@ -56,6 +57,7 @@ impl Commander {
     pub fn field_at(&mut self, a: OldAddr, i: u32) -> Option<Value>
         ensures value { option_map graph_value result ≡ field_of (lookup (graph_in (heap_in self.old)).objects a.0) i }
         ensures heap { heap_in self.new ≡ heap_in self.old }
+        ensures log { log_length self.new ≡ log_length self.old }
         ensures cells { cells_of self.new ≡ cells_of self.old }
         ensures moves { moves_in self.new ≡ moves_in self.old }
         ensures begun { beginning_of self.new ≡ beginning_of self.old }
@@ -79,6 +81,7 @@ impl Commander {
         ensures step { root_refers (roomy_in (heap_in self.old)) d a.0 ≡ (result, roomy_in (heap_in self.new)) }
         ensures space { (heap_in self.new).space ≡ (heap_in self.old).space }
         ensures missed { result ≡ Reply.NoObject → heap_in self.new ≡ heap_in self.old }
+        ensures log { log_length self.new ≡ log_length self.old }
         ensures cells { cells_of self.new ≡ cells_of self.old }
         ensures roots { length self.new.roots.items ≡ length self.old.roots.items }
         ensures logs { logs_writes self.new ≡ logs_writes self.old }

@@ -1,18 +1,24 @@
 //! A mutator and a collector in two threads, over one heap of objects.
-ghost use Rattle.std.specs.Prelude.{◌≤◌, ◌≡◌, IfOk};
+ghost use Rattle.std.specs.Prelude.{◌≤◌, ◌≡◌, IfErr, IfOk};
 ghost use Rattle.gc_concurrent.specs.Holders.{heap_in};
-ghost use Rattle.gc_concurrent.specs.Law.{AreAllReplies, AreRepliesFromNothing};
+ghost use Rattle.gc_concurrent.specs.Law.{AreAllReplies, AreReplies, AreRepliesFromNothing, HasNoFull, StandsFromNothing};
 
 use crate::copier::Work;
 use crate::handshake::{Asking, Collector, Holding, Runner, open};
 use crate::runs::mutate_all;
 use gc_check::Sequential;
-use gc_graph::{NoMemory, Op, Reply, View};
+use gc_graph::{Op, Reply, View};
 use std::alloc::Global;
 use std::sync::Wait;
 use std::sync::atomic::{AtomicU64, Ordering};
 use std::thread;
 use std::thread::{Threads, join};
+
+/// A run that ended because memory ran out. It has the replies so far, none if no heap could be opened.
+#[derive(Drop)]
+pub struct CutReplies {
+    pub replies: Vec<Reply>,
+}
 
 fn mutate_and_stop<R: Wait>(
     rt: &R,
@@ -20,15 +26,18 @@ fn mutate_and_stop<R: Wait>(
     runner: Runner,
     ops: &[Op],
     stop: &AtomicU64,
-) -> Result<Vec<Reply>, NoMemory>
-    ensures { IfOk result (λ replies. AreAllReplies (heap_in runner.commander) ops.now replies.items) }
+) -> Result<Vec<Reply>, CutReplies>
+    ensures replies { IfOk result (λ replies. AreAllReplies (heap_in runner.commander) ops.now replies.items) }
+    ensures cut { IfErr result (λ cut. AreReplies (heap_in runner.commander) ops.now cut.replies.items × HasNoFull cut.replies.items) }
 {
     let _named = View::Nil;
     let done = mutate_all(rt, alloc, runner, ops);
     stop.store(1, Ordering::SeqCst);
     match done {
         Ok((_runner, replies)) => Ok(replies),
-        Err(_cut) => Err(NoMemory),
+        Err(cut) => Err(CutReplies {
+            replies: cut.replies,
+        }),
     }
 }
 
@@ -141,18 +150,23 @@ fn prepared<R: Wait>(
 }
 
 /// Opens a heap of `size` words, and performs all commands in it, while a collector's thread collects and flips without a pause. Each flip
-/// rests on the standing checker. Returns the replies.
+/// rests on the standing checker. Returns the replies. If memory runs out, it returns those to the first commands, none of which is `Full`.
 pub fn beside_collector<R: Threads + Wait + Sync>(
     rt: &R,
     alloc: Global,
     size: u32,
     ops: &[Op],
-) -> Result<Vec<Reply>, NoMemory>
+) -> Result<Vec<Reply>, CutReplies>
     requires { 1 ≤ size }
-    ensures { IfOk result (λ replies. AreRepliesFromNothing ops.now replies.items) }
+    ensures replies { IfOk result (λ replies. AreRepliesFromNothing ops.now replies.items) }
+    ensures cut { IfErr result (λ cut. StandsFromNothing ops.now cut.replies.items) }
 {
     let _named = View::Nil;
-    let (runner, collector) = open(alloc, size)?;
+    let Ok((runner, collector)) = open(alloc, size) else {
+        return Err(CutReplies {
+            replies: Vec::new(alloc),
+        });
+    };
     let flag = AtomicU64::new(0);
     let stop = &flag;
     let (replies, _flips) = join(

@@ -8,7 +8,7 @@ ghost use Rattle.gc_heap.specs.Heap.{graph_in};
 ghost use Rattle.gc_heap.specs.Raws.{numbers_in};
 ghost use Rattle.gc_words.specs.Word.{value_of};
 ghost use Rattle.gc_words.specs.Closed.{IsRootWord};
-ghost use Rattle.gc_concurrent.specs.Holders.{beginning_of, cells_of, heap_in, logs_writes, moves_in};
+ghost use Rattle.gc_concurrent.specs.Holders.{beginning_of, cells_of, heap_in, log_length, logs_writes, moves_in};
 ghost use Rattle.gc_concurrent.specs.Internal.LogRoom.{HasLogRoom};
 ghost use Rattle.gc_concurrent.specs.Internal.Shapes.{FitsHeader, row_told};
 ghost use Rattle.gc_concurrent.specs.Machines.{PutsValue};
@@ -62,6 +62,7 @@ impl Commander {
         requires order { from ≤ to }
         requires range { to ≤ length self.old.roots.items }
         ensures step { PerformsEach (clear_commands from (to - from)) (heap_in self.old) (heap_in self.new) }
+        ensures log { log_length self.new ≡ log_length self.old }
         ensures cells { cells_of self.new ≡ cells_of self.old }
         ensures moves { moves_in self.new ≡ moves_in self.old }
         ensures begun { beginning_of self.new ≡ beginning_of self.old }
@@ -77,6 +78,7 @@ impl Commander {
         requires { s < length self.old.roots.items }
         ensures step { Peeks s i (heap_in self.old) result }
         ensures heap { heap_in self.new ≡ heap_in self.old }
+        ensures log { log_length self.new ≡ log_length self.old }
         ensures cells { cells_of self.new ≡ cells_of self.old }
         ensures moves { moves_in self.new ≡ moves_in self.old }
         ensures begun { beginning_of self.new ≡ beginning_of self.old }
@@ -96,6 +98,7 @@ impl Commander {
         ensures step { IfOk result (λ reply. MakesFrom d kind places.now (heap_in self.old) reply (heap_in self.new)) }
         ensures err { OnErr result (heap_in self.new ≡ heap_in self.old) }
         ensures logs { OnErr result (logs_writes self.old ≡ true) }
+        ensures log { log_length self.new ≤ log_length self.old + length places.now }
         ensures cells { cells_of self.new ≡ cells_of self.old }
         ensures moves { moves_in self.new ≡ moves_in self.old }
         ensures begun { beginning_of self.new ≡ beginning_of self.old }
@@ -118,6 +121,7 @@ impl Commander {
         requires fields { AllByRecursion (λ p. p < length self.old.roots.items) places.now }
         requires few { length places.now < 2 ^ 16 }
         ensures step { PerformsEach (put_commands d 0 places.now) (heap_in self.old) (heap_in self.new) }
+        ensures log { log_length self.new ≤ log_length self.old + length places.now }
         ensures cells { cells_of self.new ≡ cells_of self.old }
         ensures moves { moves_in self.new ≡ moves_in self.old }
         ensures begun { beginning_of self.new ≡ beginning_of self.old }
@@ -141,6 +145,7 @@ impl Commander {
         ensures step { IfOk result (λ reply. MakesFrom d kind (places_from first count) (heap_in self.old) reply (heap_in self.new)) }
         ensures err { OnErr result (heap_in self.new ≡ heap_in self.old) }
         ensures logs { OnErr result (logs_writes self.old ≡ true) }
+        ensures log { log_length self.new ≤ log_length self.old + count }
         ensures cells { cells_of self.new ≡ cells_of self.old }
         ensures moves { moves_in self.new ≡ moves_in self.old }
         ensures begun { beginning_of self.new ≡ beginning_of self.old }
@@ -162,6 +167,7 @@ impl Commander {
         requires object { d < length self.old.roots.items }
         requires fields { first + count ≤ length self.old.roots.items }
         ensures step { PerformsEach (put_commands d 0 (places_from first count)) (heap_in self.old) (heap_in self.new) }
+        ensures log { log_length self.new ≤ log_length self.old + count }
         ensures cells { cells_of self.new ≡ cells_of self.old }
         ensures moves { moves_in self.new ≡ moves_in self.old }
         ensures begun { beginning_of self.new ≡ beginning_of self.old }
@@ -178,6 +184,7 @@ impl Commander {
         requires range { first + count ≤ length self.old.roots.items }
         requires giver { s < length self.old.roots.items }
         ensures step { Spreads first s count (heap_in self.old) result (heap_in self.new) }
+        ensures log { log_length self.new ≡ log_length self.old }
         ensures cells { cells_of self.new ≡ cells_of self.old }
         ensures moves { moves_in self.new ≡ moves_in self.old }
         ensures begun { beginning_of self.new ≡ beginning_of self.old }
@@ -198,6 +205,7 @@ impl Commander {
         requires range { first + count ≤ length self.old.roots.items }
         requires giver { s < length self.old.roots.items }
         ensures step { PerformsEach (get_commands first s 0 count) (heap_in self.old) (heap_in self.new) }
+        ensures log { log_length self.new ≡ log_length self.old }
         ensures cells { cells_of self.new ≡ cells_of self.old }
         ensures moves { moves_in self.new ≡ moves_in self.old }
         ensures begun { beginning_of self.new ≡ beginning_of self.old }
@@ -217,6 +225,7 @@ impl Commander {
         ensures step { IfOk result (λ reply. FillsFields s from to t (heap_in self.old) reply (heap_in self.new)) }
         ensures err { OnErr result (heap_in self.new ≡ heap_in self.old) }
         ensures logs { OnErr result (logs_writes self.old ≡ true) }
+        ensures log { log_length self.new ≤ log_length self.old + (to - from) }
         ensures cells { cells_of self.new ≡ cells_of self.old }
         ensures moves { moves_in self.new ≡ moves_in self.old }
         ensures begun { beginning_of self.new ≡ beginning_of self.old }
@@ -244,6 +253,7 @@ impl Commander {
         requires giver { t < length self.old.roots.items }
         requires fields { from + count < 2 ^ 16 }
         ensures step { PerformsEach (fill_commands s from count t) (heap_in self.old) (heap_in self.new) }
+        ensures log { log_length self.new ≤ log_length self.old + count }
         ensures cells { cells_of self.new ≡ cells_of self.old }
         ensures moves { moves_in self.new ≡ moves_in self.old }
         ensures begun { beginning_of self.new ≡ beginning_of self.old }
@@ -267,6 +277,7 @@ impl Commander {
         ensures step { IfOk result (λ reply. WritesNumbers s first numbers.now (heap_in self.old) reply (heap_in self.new)) }
         ensures err { OnErr result (heap_in self.new ≡ heap_in self.old) }
         ensures logs { OnErr result (logs_writes self.old ≡ true) }
+        ensures log { log_length self.new ≤ log_length self.old + length numbers.now }
         ensures cells { cells_of self.new ≡ cells_of self.old }
         ensures moves { moves_in self.new ≡ moves_in self.old }
         ensures begun { beginning_of self.new ≡ beginning_of self.old }
@@ -291,6 +302,7 @@ impl Commander {
         requires fields { first + length numbers.now < 2 ^ 16 }
         requires numbers { IsTrue (list_all is_number_word numbers.now) }
         ensures step { PutsEach s first (map Num numbers.now) (heap_in self.old) (heap_in self.new) }
+        ensures log { log_length self.new ≤ log_length self.old + length numbers.now }
         ensures cells { cells_of self.new ≡ cells_of self.old }
         ensures moves { moves_in self.new ≡ moves_in self.old }
         ensures begun { beginning_of self.new ≡ beginning_of self.old }
@@ -308,6 +320,7 @@ impl Commander {
         requires { s < length self.old.roots.items }
         ensures step { ReadsNumbers first (numbers_in (object_of_root (heap_in self.old) s)) numbers.old result numbers.new }
         ensures heap { heap_in self.new ≡ heap_in self.old }
+        ensures log { log_length self.new ≡ log_length self.old }
         ensures cells { cells_of self.new ≡ cells_of self.old }
         ensures moves { moves_in self.new ≡ moves_in self.old }
         ensures begun { beginning_of self.new ≡ beginning_of self.old }
@@ -327,6 +340,7 @@ impl Commander {
         requires long { first + length numbers.old ≤ length (fields_of (object_of_root (heap_in self.old) s)) }
         ensures read { numbers.new ≡ take (length numbers.old) (drop first (map number_meant (fields_of (object_of_root (heap_in self.old) s)))) }
         ensures heap { heap_in self.new ≡ heap_in self.old }
+        ensures log { log_length self.new ≡ log_length self.old }
         ensures cells { cells_of self.new ≡ cells_of self.old }
         ensures moves { moves_in self.new ≡ moves_in self.old }
         ensures begun { beginning_of self.new ≡ beginning_of self.old }
@@ -341,6 +355,7 @@ impl Commander {
         requires { s < length self.old.roots.items }
         ensures value { result ≡ number_meant (value_in (graph_in (heap_in self.old)) s i) }
         ensures heap { heap_in self.new ≡ heap_in self.old }
+        ensures log { log_length self.new ≡ log_length self.old }
         ensures cells { cells_of self.new ≡ cells_of self.old }
         ensures moves { moves_in self.new ≡ moves_in self.old }
         ensures begun { beginning_of self.new ≡ beginning_of self.old }
@@ -367,6 +382,7 @@ impl Commander {
         ensures step { IfOk result (λ reply. CopiesFields d to s from count (heap_in self.old) reply (heap_in self.new)) }
         ensures err { OnErr result (heap_in self.new ≡ heap_in self.old) }
         ensures logs { OnErr result (logs_writes self.old ≡ true) }
+        ensures log { log_length self.new ≤ log_length self.old + count }
         ensures cells { cells_of self.new ≡ cells_of self.old }
         ensures moves { moves_in self.new ≡ moves_in self.old }
         ensures begun { beginning_of self.new ≡ beginning_of self.old }
@@ -397,6 +413,7 @@ impl Commander {
         ensures all { result ≡ list_all is_number (take count (drop from (fields_of (object_of_root (heap_in self.old) s)))) }
         ensures heap { heap_in self.new ≡ heap_in self.old }
         ensures logs { logs_writes self.new ≡ logs_writes self.old }
+        ensures log { log_length self.new ≡ log_length self.old }
         ensures cells { cells_of self.new ≡ cells_of self.old }
         ensures moves { moves_in self.new ≡ moves_in self.old }
         ensures begun { beginning_of self.new ≡ beginning_of self.old }
@@ -415,6 +432,7 @@ impl Commander {
         ensures value { result ≡ is_number (value_in (graph_in (heap_in self.old)) s i) }
         ensures heap { heap_in self.new ≡ heap_in self.old }
         ensures logs { logs_writes self.new ≡ logs_writes self.old }
+        ensures log { log_length self.new ≡ log_length self.old }
         ensures cells { cells_of self.new ≡ cells_of self.old }
         ensures moves { moves_in self.new ≡ moves_in self.old }
         ensures begun { beginning_of self.new ≡ beginning_of self.old }
@@ -432,6 +450,7 @@ impl Commander {
         requires giver { s < length self.old.roots.items }
         requires fields { (to + count < 2 ^ 16) × (from + count < 2 ^ 16) }
         ensures step { CopiesEach d to s from count (heap_in self.old) (heap_in self.new) }
+        ensures log { log_length self.new ≤ log_length self.old + count }
         ensures cells { cells_of self.new ≡ cells_of self.old }
         ensures moves { moves_in self.new ≡ moves_in self.old }
         ensures begun { beginning_of self.new ≡ beginning_of self.old }
@@ -449,6 +468,7 @@ impl Commander {
         requires giver { s < length self.old.roots.items }
         ensures step { PutsValue d i (value_in (graph_in (heap_in self.old)) s j) (heap_in self.old) result (heap_in self.new) }
         ensures room { (n : ℕ) → HasLogRoom (suc n) self.old → HasLogRoom n self.new }
+        ensures log { log_length self.new ≤ log_length self.old + 1 }
         ensures cells { cells_of self.new ≡ cells_of self.old }
         ensures moves { moves_in self.new ≡ moves_in self.old }
         ensures begun { beginning_of self.new ≡ beginning_of self.old }
@@ -468,6 +488,7 @@ impl Commander {
         ensures some { IfSome result (λ header. FitsHeader header (object_of_root (heap_in self.old) s)) }
         ensures heap { heap_in self.new ≡ heap_in self.old }
         ensures logs { logs_writes self.new ≡ logs_writes self.old }
+        ensures log { log_length self.new ≡ log_length self.old }
         ensures cells { cells_of self.new ≡ cells_of self.old }
         ensures moves { moves_in self.new ≡ moves_in self.old }
         ensures begun { beginning_of self.new ≡ beginning_of self.old }

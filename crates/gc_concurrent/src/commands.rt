@@ -68,7 +68,7 @@ fn field_word(header: Header, word: u64) -> Option<u64>
 }
 
 impl Commander {
-    ghost use Rattle.gc_concurrent.specs.Holders.{beginning_of, cells_of, heap_in, logs_writes, moves_in};
+    ghost use Rattle.gc_concurrent.specs.Holders.{beginning_of, cells_of, heap_in, log_length, logs_writes, moves_in};
     ghost use Rattle.gc_concurrent.specs.Internal.LogRoom.{HasLogRoom};
     ghost use Rattle.gc_model.specs.Belonging.{RefersTo};
     ghost use Rattle.std.specs.Prelude.{OnOk, OnErr};
@@ -89,6 +89,7 @@ impl Commander {
     pub(crate) fn make(&mut self, place: usize, raw: bool, kind: u8, len: u16) -> Reply
         requires { place < length self.old.roots.items }
         ensures step { (result, roomy_in (heap_in self.new)) ≡ make_object (roomy_in (heap_in self.old)) place raw kind len (end_of (heap_in self.old).space) }
+        ensures log { log_length self.new ≡ log_length self.old }
         ensures cells { cells_of self.new ≡ cells_of self.old }
         ensures moves { moves_in self.new ≡ moves_in self.old }
         ensures begun { beginning_of self.new ≡ beginning_of self.old }
@@ -109,6 +110,7 @@ impl Commander {
         ensures room { OnOk result (HasLogRoom more self.new) }
         ensures logs { OnErr result (logs_writes self.old ≡ true) }
         ensures heap { heap_in self.new ≡ heap_in self.old }
+        ensures log { log_length self.new ≡ log_length self.old }
         ensures cells { cells_of self.new ≡ cells_of self.old }
         ensures moves { moves_in self.new ≡ moves_in self.old }
         ensures begun { beginning_of self.new ≡ beginning_of self.old }
@@ -127,6 +129,7 @@ impl Commander {
         ensures end { (length (heap_in self.new).space.words ≡ length (heap_in self.old).space.words) × ((heap_in self.new).space.size ≡ (heap_in self.old).space.size) }
         ensures room { (n : ℕ) → HasLogRoom (suc n) self.old → HasLogRoom n self.new }
         ensures roots { self.new.roots.items ≡ self.old.roots.items }
+        ensures log { log_length self.new ≤ log_length self.old + 1 }
         ensures cells { cells_of self.new ≡ cells_of self.old }
         ensures moves { moves_in self.new ≡ moves_in self.old }
         ensures begun { beginning_of self.new ≡ beginning_of self.old }
@@ -156,6 +159,7 @@ impl Commander {
         ensures end { (length (heap_in self.new).space.words ≡ length (heap_in self.old).space.words) × ((heap_in self.new).space.size ≡ (heap_in self.old).space.size) }
         ensures room { (n : ℕ) → HasLogRoom (suc n) self.old → HasLogRoom n self.new }
         ensures roots { self.new.roots.items ≡ self.old.roots.items }
+        ensures log { log_length self.new ≤ log_length self.old + 1 }
         ensures cells { cells_of self.new ≡ cells_of self.old }
         ensures moves { moves_in self.new ≡ moves_in self.old }
         ensures begun { beginning_of self.new ≡ beginning_of self.old }

@@ -1,10 +1,11 @@
 //! The collector's thread: it makes replicas in the space of the next heap.
-ghost use Rattle.std.specs.Prelude.{◌≡◌, ◌≢◌, ℕ, ◌+◌, ◌-◌, ◌*◌, ◌^◌, ◌<◌, ◌≤◌, true, false, List, [], ◌∷◌, ◌++◌, drop, length, slice_index, slice_set, IfOk, IfErr, IfSome, IfNone, IsTrue, IsFalse, IsSome, ◌⊎◌, ◌&&◌, if◌then◌else◌, OnErr, OnOk};
+ghost use Rattle.std.specs.Prelude.{◌≡◌, ◌≢◌, ℕ, ◌+◌, ◌-◌, ◌*◌, ◌^◌, ◌<◌, ◌≤◌, true, false, List, [], ◌∷◌, ◌++◌, drop, length, slice_index, slice_set, IfOk, IfErr, IfSome, IfNone, IsTrue, IsFalse, IsSome, ◌⊎◌, ◌&&◌, if◌then◌else◌, OnErr, OnOk, Some};
 ghost use Rattle.std.specs.Arc.{arc_value};
 ghost use Rattle.gc_graph.specs.Graph.{Ref};
 ghost use Rattle.gc_words.specs.Word.{is_value, value_of};
-ghost use Rattle.gc_words.specs.Space.{IsSpace, end_of};
-ghost use Rattle.gc_words.specs.Closed.{IsRootWord};
+ghost use Rattle.gc_words.specs.Space.{IsSpace, end_of, with_field_at};
+ghost use Rattle.gc_words.specs.Image.{Block, block_at, field_at};
+ghost use Rattle.gc_words.specs.Closed.{IsFieldWord, IsRootWord};
 ghost use Rattle.gc_heap.specs.Heap.{IsHeap};
 ghost use Rattle.gc_model.specs.State.{Replica, replica_of};
 ghost use Rattle.gc_model.specs.Steps.{is_empty, scan_done};
@@ -195,6 +196,19 @@ fn is_scanned(header: Header, field: u16) -> bool
     header.is_raw() || field >= header.len()
 }
 
+// Writes field `i` of the replica at `at`, and returns its word as it is then.
+fn wrote(space: &mut NextSpace, at: Addr, i: u16, word: u64) -> u64
+    requires shaped { IsSpace space.old }
+    requires there { IsSome (field_at space.old.words at.0 i) }
+    requires fits { (b : Block) → block_at space.old.words at.0 ≡ Some b → IsFieldWord space.old.words b.header word }
+    ensures words { space.new ≡ with_field_at space.old at.0 i word }
+    ensures shaped { IsSpace space.new }
+    ensures value { field_at space.new.words at.0 i ≡ Some result }
+{
+    space.set_field(at, i, word);
+    space.field(at, i)
+}
+
 impl Copier {
     /// Scans the field at the scan pointer, or goes on behind the replica there.
     fn scan_one(&mut self)
@@ -220,8 +234,7 @@ impl Copier {
             .load::<Scanned>(&mut self.seat, field_index(original, self.scan_field));
         match moved_word(self.claims.as_slice(), word) {
             Ok(moved) => {
-                self.space.set_field(at, self.scan_field, moved);
-                let written = self.space.field(at, self.scan_field);
+                let written = wrote(&mut self.space, at, self.scan_field, moved);
                 compare(
                     cells,
                     &mut self.seat,
@@ -277,8 +290,7 @@ impl Copier {
         );
         match moved_field(header.is_raw(), self.claims.as_slice(), word) {
             Ok(moved) => {
-                self.space.set_field(at, oldest.field, moved);
-                let written = self.space.field(at, oldest.field);
+                let written = wrote(&mut self.space, at, oldest.field, moved);
                 compare(
                     cells,
                     &mut self.seat,

@@ -1,14 +1,14 @@
 //! The handshake through which a mutator goes to its collector and back. No call here waits but `poll` and `wait`.
-ghost use Rattle.std.specs.Prelude.{◌≡◌, ◌⊎◌, ◌≢◌, ℕ, ◌<◌, ◌≤◌, true, false, [], ◌∷◌, map, replicate, IfOk, MatchResult};
+ghost use Rattle.std.specs.Prelude.{◌≡◌, ◌⊎◌, ◌≢◌, ℕ, ◌+◌, ◌*◌, ◌<◌, ◌≤◌, true, false, [], ◌∷◌, length, map, replicate, IfOk, MatchResult};
 ghost use Rattle.std.specs.Arc.{arc_value};
-ghost use Rattle.gc_concurrent.specs.Holders.{beginning_held, beginning_of, cells_read_by, heap_in, known_to, logs_writes, moves_held, moves_in, situation_in};
+ghost use Rattle.gc_concurrent.specs.Holders.{beginning_held, beginning_of, cells_read_by, heap_in, known_to, log_length, logs_writes, moves_held, moves_in, situation_in};
 ghost use Rattle.gc_concurrent.specs.Heaps.{GoesOnIn};
 ghost use Rattle.gc_concurrent.specs.Moves.{StaysOrFlips, no_moves};
 ghost use Rattle.gc_concurrent.specs.Internal.Handshakes.{hands};
 ghost use Rattle.gc_concurrent.specs.Holders.{cells_of};
 ghost use Rattle.gc_concurrent.specs.Heaps.{heap_of};
 ghost use Rattle.gc_graph.specs.Graph.{opening};
-ghost use Rattle.gc_words.specs.Space.{empty_space};
+ghost use Rattle.gc_words.specs.Space.{empty_space, end_of};
 ghost use Rattle.gc_heap.specs.ExtraRoots.{most_extra_roots};
 ghost use Rattle.gc_heap.specs.Heap.{empty_heap, graph_in};
 ghost use Rattle.gc_concurrent.specs.Ends.{begun_with, its, opening_theirs, Theirs};
@@ -213,7 +213,7 @@ pub struct Asking {
 #[derive(Drop)]
 pub struct Holding {
     handshake: Arc<Handshake, Global>,
-    seat: HandshakeEnd,
+    pub seat: HandshakeEnd,
     pub held: Held,
     pub turns: Turns,
     ghost row: { ((arc_value handshake).shared.table_id ≡ seat.table_id) × (seat.table_id.words ≡ 1) },
@@ -287,8 +287,10 @@ impl Collector {
 }
 
 impl Asking {
+    ghost use Rattle.gc_concurrent.specs.Waiters.{situation_taken};
     ghost use Rattle.gc_concurrent.specs.Works.{KeepsBeginning, TakesLog, WhereDone, WhereNoRoom};
-    ghost use Rattle.gc_concurrent.specs.Nearing.{GetsOn};
+    ghost use Rattle.gc_concurrent.specs.Holders.{heap_held};
+    ghost use Rattle.gc_concurrent.specs.Nearing.{GetsOn, steps_ahead};
 
     /// Performs one step, beside the mutator.
     pub fn work(&mut self) -> Work
@@ -304,6 +306,8 @@ impl Asking {
     /// Takes the mutator with its log, if it has stopped and nothing is due. Replicas may be left to scan.
     pub fn take(self) -> Result<Holding, Asking>
         ensures log { MatchResult result (λ holding. TakesLog (known_to self.copier) (known_to holding.held.copier)) (λ asking. asking.copier ≡ self.copier) }
+        ensures most { IfOk result (λ holding. length (known_to holding.held.copier).due ≡ (situation_taken holding).logged) }
+        ensures steps { IfOk result (λ holding. steps_ahead (end_of (heap_held holding.held).space) (known_to holding.held.copier) ≤ 4 * end_of (heap_held holding.held).space + 2 * (situation_taken holding).logged + 1) }
         ensures turns { MatchResult result (λ holding. holding.turns ≡ self.turns) (λ asking. asking.turns ≡ self.turns) }
     {
         if !self.copier.has_nothing_due() {
@@ -526,6 +530,7 @@ pub fn open(alloc: Global, size: u32) -> Result<(Runner, Collector), NoMemory>
     ensures room { IfOk result (λ r. known_to r.1.copier ≡ opening_theirs (heap_in r.0.commander) size size) }
     ensures pair { IfOk result (λ r. cells_of r.0.commander ≡ cells_read_by r.1.copier) }
     ensures rests { IfOk result (λ r. logs_writes r.0.commander ≡ false) }
+    ensures log { IfOk result (λ r. log_length r.0.commander ≡ 0) }
     ensures moves { IfOk result (λ r. moves_in r.0.commander ≡ no_moves) }
     ensures begun { IfOk result (λ r. beginning_of r.0.commander ≡ begun_with (heap_in r.0.commander)) }
 {
@@ -541,6 +546,7 @@ pub fn open_with(alloc: Global, size: u32, extra: u32) -> Result<(Runner, Collec
     ensures room { IfOk result (λ r. known_to r.1.copier ≡ opening_theirs (heap_in r.0.commander) size size) }
     ensures pair { IfOk result (λ r. cells_of r.0.commander ≡ cells_read_by r.1.copier) }
     ensures rests { IfOk result (λ r. logs_writes r.0.commander ≡ false) }
+    ensures log { IfOk result (λ r. log_length r.0.commander ≡ 0) }
     ensures moves { IfOk result (λ r. moves_in r.0.commander ≡ no_moves) }
     ensures begun { IfOk result (λ r. beginning_of r.0.commander ≡ begun_with (heap_in r.0.commander)) }
     ensures turns { IfOk result (λ r. r.1.turns ≡ turns_at_open 0) }
@@ -562,6 +568,7 @@ pub fn open_checked(
     ensures room { IfOk result (λ r. known_to r.1.copier ≡ opening_theirs (heap_in r.0.commander) size size) }
     ensures pair { IfOk result (λ r. cells_of r.0.commander ≡ cells_read_by r.1.copier) }
     ensures rests { IfOk result (λ r. logs_writes r.0.commander ≡ false) }
+    ensures log { IfOk result (λ r. log_length r.0.commander ≡ 0) }
     ensures moves { IfOk result (λ r. moves_in r.0.commander ≡ no_moves) }
     ensures begun { IfOk result (λ r. beginning_of r.0.commander ≡ begun_with (heap_in r.0.commander)) }
     ensures turns { IfOk result (λ r. r.1.turns ≡ turns_at_open whole_each) }

@@ -9,7 +9,7 @@ ghost use Rattle.gc_words.specs.Closed.{IsRootWord};
 ghost use Rattle.gc_words.specs.Space.{end_of};
 ghost use Rattle.gc_heap.specs.ExtraRoots.{most_extra_roots};
 ghost use Rattle.gc_heap.specs.Heap.{IsHeap, empty_heap, graph_in};
-ghost use Rattle.gc_model.specs.State.{new_graph, pairs_of, replica_of};
+ghost use Rattle.gc_model.specs.State.{new_end, new_graph, pairs_of, replica_of};
 ghost use Rattle.gc_model.specs.Steps.{scan_done};
 ghost use Rattle.gc_model.specs.Members.{In};
 ghost use Rattle.gc_concurrent.specs.Heaps.{heap_of};
@@ -76,6 +76,7 @@ pub(crate) fn hold(commander: Commander, copier: Copier) -> Held
     ensures begun { result.copier.seat.me.0.mine.base ≡ commander.mutator.seat.me.0.mine.base }
     ensures row { result.copier.seat.table_id ≡ copier.seat.table_id }
     ensures log { result.copier.seat.me.0.theirs ≡ record copier.seat.me.0.theirs { due = commander.mutator.log.items } }
+    ensures fits { new_end (its result.copier.seat.me.0.theirs) ≤ end_of result.copier.seat.me.0.mine.space }
 {
     let Commander {
         mutator,
@@ -203,7 +204,7 @@ impl From<NoMemory> for NoFlip {
 impl Held {
     ghost use Rattle.std.specs.Prelude.{IsFalse};
     ghost use Rattle.gc_concurrent.specs.Works.{KeepsBeginning, WhereDone, WhereNoRoom};
-    ghost use Rattle.gc_concurrent.specs.Holders.{beginning_held, beginning_of, heap_held, heap_in, known_to, logs_writes, may_flip, moves_held, moves_in, roots_placed, situation_in, IsNearer, StaysOrIsNearer};
+    ghost use Rattle.gc_concurrent.specs.Holders.{beginning_held, beginning_of, heap_held, heap_in, known_to, log_length, logs_writes, may_flip, moves_held, moves_in, roots_placed, situation_in, IsNearer, StaysOrIsNearer};
     ghost use Rattle.gc_concurrent.specs.Internal.Settled.{IsSettled};
 
     /// Performs one step of the collector, while the mutator waits.
@@ -228,6 +229,7 @@ impl Held {
         ensures moves { moves_in result.0 ≡ moves_held self }
         ensures known { known_to result.1 ≡ known_to self.copier }
         ensures begun { beginning_of result.0 ≡ beginning_held self }
+        ensures log { log_length result.0 ≡ 0 }
         ensures row { (result.0.mutator.seat.table_id ≡ result.1.seat.table_id) × (result.1.seat.table_id ≡ self.copier.seat.table_id) }
     {
         let Held {
@@ -355,7 +357,7 @@ impl Held {
         whole: bool,
     ) -> Result<(Commander, Copier, bool), (Held, NoFlip)>
         requires { C.can_check checker.now }
-        ensures ok { IfOk result (λ r. FlipsTo (record { heap = heap_held self; moves = moves_held self; begun = beginning_held self }) (situation_in r.0)) }
+        ensures ok { IfOk result (λ r. (logged : ℕ) → FlipsTo (record { heap = heap_held self; moves = moves_held self; begun = beginning_held self; logged = logged }) (situation_in r.0)) }
         ensures replicas { IfOk result (λ r. graph_in (heap_in r.0) ≡ new_graph (its (known_to self.copier)) (map value_of self.roots.items)) }
         ensures space { IfOk result (λ r. r.0.mutator.size ≡ (known_to self.copier).size) }
         ensures fresh { IfOk result (λ r. known_to r.1 ≡ opening_theirs (heap_in r.0) (known_to self.copier).size 1) }
@@ -449,6 +451,7 @@ fn begin(
     ensures heap { heap_of result.0.mutator.seat.me.0.mine result.0.roots.items ≡ one_heap space roots.items }
     ensures fresh { result.1.seat.me.0.theirs ≡ opening_theirs (one_heap space roots.items) space.size 1 }
     ensures rests { result.0.mutator.seat.me.0.mine.logs ≡ false }
+    ensures log { result.0.mutator.seat.me.0.mine.log ≡ [] }
     ensures begun { result.0.mutator.seat.me.0.mine.base ≡ begun_with (one_heap space roots.items) }
     ensures row { result.0.mutator.seat.table_id ≡ result.1.seat.table_id }
     ensures size { result.0.mutator.size ≡ space.size }
@@ -512,6 +515,7 @@ pub(crate) fn open_ends(
     ensures row { IfOk result (λ r. r.0.mutator.seat.table_id ≡ r.1.seat.table_id) }
     ensures room { IfOk result (λ r. r.1.seat.me.0.theirs ≡ opening_theirs (heap_of r.0.mutator.seat.me.0.mine r.0.roots.items) size size) }
     ensures rests { IfOk result (λ r. r.0.mutator.seat.me.0.mine.logs ≡ false) }
+    ensures log { IfOk result (λ r. r.0.mutator.seat.me.0.mine.log ≡ []) }
     ensures moves { IfOk result (λ r. r.0.moves ≡ no_moves) }
     ensures begun { IfOk result (λ r. r.0.mutator.seat.me.0.mine.base ≡ begun_with (heap_of r.0.mutator.seat.me.0.mine r.0.roots.items)) }
 {

@@ -10,6 +10,7 @@ mod commands;
 mod copier;
 mod handshake;
 mod held;
+mod logging;
 mod machine;
 mod moves;
 mod mutator;
@@ -21,13 +22,14 @@ mod spare;
 mod turns;
 mod watching;
 
-pub use beside::beside_collector;
+pub use beside::{CutReplies, beside_collector};
 pub use commands::Commander;
 pub use copier::Work;
 pub use handshake::{
     Asking, Collector, Holding, Runner, Unflipped, Waiting, open, open_checked, open_with,
 };
 pub use held::NoFlip;
+pub use logging::logs_are_bounded;
 pub use moves::{Moves, flips_tell_moves};
 pub use runs::{CutShort, mutate, mutate_all, runs_reply_alike, what_is_shown_stays};
 pub use turns::Turns;

@@ -11,10 +11,11 @@ ghost use Rattle.gc_heap.specs.Heap.{graph_in};
 ghost use Rattle.gc_model.specs.Steps.{WritesField};
 ghost use Rattle.gc_model.specs.Belonging.{RefersTo};
 ghost use Rattle.gc_concurrent.specs.Unreachable.{MayBeCopied};
-ghost use Rattle.gc_concurrent.specs.Holders.{beginning_of, cells_of, heap_in, logs_writes, moves_in};
+ghost use Rattle.gc_concurrent.specs.Holders.{beginning_of, cells_of, heap_in, log_length, logs_writes, moves_in};
 ghost use Rattle.gc_concurrent.specs.Internal.LogRoom.{HasLogRoom};
 ghost use Rattle.gc_concurrent.specs.Bulk.{object_of_root};
 ghost use Rattle.gc_concurrent.specs.Internal.Shapes.{GetsField};
+ghost use Rattle.gc_concurrent.specs.Logging.{writes_of};
 ghost use Rattle.gc_concurrent.specs.Machines.{Does};
 
 use crate::commands::Commander;
@@ -50,6 +51,7 @@ impl Commander {
         requires allowed { RefersTo (MayBeCopied self.old.mutator.seat.me.0.mine.base) (value_of word) }
         ensures done { result ≡ Reply.Done }
         ensures heap { heap_in self.new ≡ record (heap_in self.old) { roots = slice_set self.old.roots.items place word } }
+        ensures log { log_length self.new ≡ log_length self.old }
         ensures cells { cells_of self.new ≡ cells_of self.old }
         ensures moves { moves_in self.new ≡ moves_in self.old }
         ensures begun { beginning_of self.new ≡ beginning_of self.old }
@@ -64,6 +66,7 @@ impl Commander {
         ensures value { result ≡ view_of (objects_of self.old.mutator.seat.me.0.mine.space.words) (value_of word) }
         ensures heap { heap_in self.new ≡ heap_in self.old }
         ensures base { self.new.mutator.seat.me.0.mine.base ≡ self.old.mutator.seat.me.0.mine.base }
+        ensures log { log_length self.new ≡ log_length self.old }
         ensures cells { cells_of self.new ≡ cells_of self.old }
         ensures moves { moves_in self.new ≡ moves_in self.old }
     {
@@ -112,6 +115,7 @@ impl Commander {
         ensures base { self.new.mutator.seat.me.0.mine.base ≡ self.old.mutator.seat.me.0.mine.base }
         ensures room { (n : ℕ) → HasLogRoom n self.old → HasLogRoom n self.new }
         ensures logs { logs_writes self.new ≡ logs_writes self.old }
+        ensures log { log_length self.new ≡ log_length self.old }
         ensures cells { cells_of self.new ≡ cells_of self.old }
         ensures moves { moves_in self.new ≡ moves_in self.old }
     {
@@ -134,6 +138,7 @@ impl Commander {
         ensures graph { let object = object_of (graph_in (heap_in self.old)).objects (root (graph_in (heap_in self.old)) s) in
             (result, graph_in (heap_in self.new)) ≡ get_field (graph_in (heap_in self.old)) d object (field_of object i) }
         ensures space { (heap_in self.new).space ≡ (heap_in self.old).space }
+        ensures log { log_length self.new ≡ log_length self.old }
         ensures cells { cells_of self.new ≡ cells_of self.old }
         ensures moves { moves_in self.new ≡ moves_in self.old }
         ensures begun { beginning_of self.new ≡ beginning_of self.old }
@@ -153,6 +158,7 @@ impl Commander {
         ensures err { OnErr result (heap_in self.new ≡ heap_in self.old) }
         ensures memory { OnErr result (WritesField op.now) }
         ensures logs { OnErr result (logs_writes self.old ≡ true) }
+        ensures log { log_length self.new ≤ log_length self.old + writes_of op.now }
         ensures cells { cells_of self.new ≡ cells_of self.old }
         ensures moves { moves_in self.new ≡ moves_in self.old }
         ensures begun { beginning_of self.new ≡ beginning_of self.old }

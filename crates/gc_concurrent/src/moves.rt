@@ -3,7 +3,7 @@ ghost use Rattle.std.specs.Prelude.{◌≡◌, ◌+◌, ◌%◌, ◌^◌, ◌<�
 ghost use Rattle.std.specs.Option.{option_map};
 ghost use Rattle.gc_graph.specs.Graph.{Ref, at_path};
 ghost use Rattle.gc_heap.specs.Heap.{graph_in};
-ghost use Rattle.gc_concurrent.specs.Moves.{FlipsTo, Situation, StaysOrFlips, half, moved_to, no_moves};
+ghost use Rattle.gc_concurrent.specs.Moves.{FlipsTo, Situation, Stays, StaysOrFlips, half, moved_to, no_moves};
 ghost use Rattle.gc_concurrent.specs.Holders.{moves_in};
 
 use crate::commands::Commander;
@@ -93,7 +93,7 @@ impl Commander {
 /// What a program relies on that follows a table by addresses. While the count of flips stays the same, so does all that the mutator has. After a flip, a path that found
 /// an object before it finds the object at the address that the row tells. So an object of which the row tells nothing was found by no path.
 pub fn flips_tell_moves()
-    ensures same { (old new : Situation) → StaysOrFlips old new → old.moves.flips < 2 ^ 64 → new.moves.flips ≡ old.moves.flips → new ≡ old }
+    ensures same { (old new : Situation) → StaysOrFlips old new → old.moves.flips < 2 ^ 64 → new.moves.flips ≡ old.moves.flips → Stays old new }
     ensures paths { (old new : Situation) → FlipsTo old new → (place : ℕ) (fields : List ℕ) (a : ℕ) → at_path (graph_in old.heap) place fields ≡ Some (Ref a)
         → (b : ℕ) × (moved_to new.moves a ≡ Some b) × (at_path (graph_in new.heap) place fields ≡ Some (Ref b)) }
 {}

@@ -116,6 +116,7 @@ impl Mutator {
         ensures logging { self.new.logs ≡ self.old.logs }
         ensures room { vec_capacity self.new.log ≡ vec_capacity self.old.log }
         ensures entries { vec_len self.new.log ≤ vec_len self.old.log + 1 }
+        ensures grows { length self.new.seat.me.0.mine.log ≤ length self.old.seat.me.0.mine.log + 1 }
         ensures row { self.new.seat.table_id ≡ self.old.seat.table_id }
         ensures size { self.new.size ≡ self.old.size }
     {

@@ -1,8 +1,8 @@
 //! The mutator's commands, as gc_graph's machine performs them. They name roots by their places, slots and extra roots alike.
-ghost use Rattle.std.specs.Prelude.{◌≡◌, true, ◌<◌, length, IfOk, OnErr};
+ghost use Rattle.std.specs.Prelude.{◌≡◌, true, ◌+◌, ◌<◌, ◌≤◌, length, IfOk, OnErr};
 ghost use Rattle.gc_graph.specs.declared.command.Op.{Op};
 ghost use Rattle.gc_heap.specs.Places.{root_at};
-ghost use Rattle.gc_concurrent.specs.Holders.{beginning_of, cells_of, heap_in, logs_writes, moves_in};
+ghost use Rattle.gc_concurrent.specs.Holders.{beginning_of, cells_of, heap_in, log_length, logs_writes, moves_in};
 ghost use Rattle.gc_graph.specs.Graph.{Nil, Num};
 ghost use Rattle.gc_concurrent.specs.Machines.{Does, MakesPair, PutsValue};
 
@@ -23,6 +23,7 @@ impl Commander {
     pub fn num_root(&mut self, d: u32, n: Number) -> Reply
         requires { d < length self.old.roots.items }
         ensures step { Does (heap_in self.old) (Op.Num (root_at d) n) result (heap_in self.new) }
+        ensures log { log_length self.new ≡ log_length self.old }
         ensures cells { cells_of self.new ≡ cells_of self.old }
         ensures moves { moves_in self.new ≡ moves_in self.old }
         ensures begun { beginning_of self.new ≡ beginning_of self.old }
@@ -36,6 +37,7 @@ impl Commander {
     pub fn nil_root(&mut self, d: u32) -> Reply
         requires { d < length self.old.roots.items }
         ensures step { Does (heap_in self.old) (Op.Nil (root_at d)) result (heap_in self.new) }
+        ensures log { log_length self.new ≡ log_length self.old }
         ensures cells { cells_of self.new ≡ cells_of self.old }
         ensures moves { moves_in self.new ≡ moves_in self.old }
         ensures begun { beginning_of self.new ≡ beginning_of self.old }
@@ -49,6 +51,7 @@ impl Commander {
         requires taker { d < length self.old.roots.items }
         requires giver { s < length self.old.roots.items }
         ensures step { Does (heap_in self.old) (Op.Move (root_at d) (root_at s)) result (heap_in self.new) }
+        ensures log { log_length self.new ≡ log_length self.old }
         ensures cells { cells_of self.new ≡ cells_of self.old }
         ensures moves { moves_in self.new ≡ moves_in self.old }
         ensures begun { beginning_of self.new ≡ beginning_of self.old }
@@ -62,6 +65,7 @@ impl Commander {
     pub fn new_root(&mut self, d: u32, kind: u8, len: u16) -> Reply
         requires { d < length self.old.roots.items }
         ensures step { Does (heap_in self.old) (Op.New (root_at d) kind len) result (heap_in self.new) }
+        ensures log { log_length self.new ≡ log_length self.old }
         ensures cells { cells_of self.new ≡ cells_of self.old }
         ensures moves { moves_in self.new ≡ moves_in self.old }
         ensures begun { beginning_of self.new ≡ beginning_of self.old }
@@ -74,6 +78,7 @@ impl Commander {
     pub fn new_raw_root(&mut self, d: u32, kind: u8, len: u16) -> Reply
         requires { d < length self.old.roots.items }
         ensures step { Does (heap_in self.old) (Op.NewRaw (root_at d) kind len) result (heap_in self.new) }
+        ensures log { log_length self.new ≡ log_length self.old }
         ensures cells { cells_of self.new ≡ cells_of self.old }
         ensures moves { moves_in self.new ≡ moves_in self.old }
         ensures begun { beginning_of self.new ≡ beginning_of self.old }
@@ -86,6 +91,7 @@ impl Commander {
     pub fn look_root(&mut self, s: u32) -> Reply
         requires { s < length self.old.roots.items }
         ensures step { Does (heap_in self.old) (Op.Look (root_at s)) result (heap_in self.new) }
+        ensures log { log_length self.new ≡ log_length self.old }
         ensures cells { cells_of self.new ≡ cells_of self.old }
         ensures moves { moves_in self.new ≡ moves_in self.old }
         ensures begun { beginning_of self.new ≡ beginning_of self.old }
@@ -109,6 +115,7 @@ impl Commander {
         requires taker { d < length self.old.roots.items }
         requires giver { s < length self.old.roots.items }
         ensures step { Does (heap_in self.old) (Op.Get (root_at d) (root_at s) i) result (heap_in self.new) }
+        ensures log { log_length self.new ≡ log_length self.old }
         ensures cells { cells_of self.new ≡ cells_of self.old }
         ensures moves { moves_in self.new ≡ moves_in self.old }
         ensures begun { beginning_of self.new ≡ beginning_of self.old }
@@ -124,6 +131,7 @@ impl Commander {
         ensures step { IfOk result (λ reply. Does (heap_in self.old) (Op.Put (root_at s) i (root_at t)) reply (heap_in self.new)) }
         ensures err { OnErr result (heap_in self.new ≡ heap_in self.old) }
         ensures logs { OnErr result (logs_writes self.old ≡ true) }
+        ensures log { log_length self.new ≤ log_length self.old + 1 }
         ensures cells { cells_of self.new ≡ cells_of self.old }
         ensures moves { moves_in self.new ≡ moves_in self.old }
         ensures begun { beginning_of self.new ≡ beginning_of self.old }
@@ -139,6 +147,7 @@ impl Commander {
         ensures step { IfOk result (λ reply. PutsValue s i (Num n) (heap_in self.old) reply (heap_in self.new)) }
         ensures err { OnErr result (heap_in self.new ≡ heap_in self.old) }
         ensures logs { OnErr result (logs_writes self.old ≡ true) }
+        ensures log { log_length self.new ≤ log_length self.old + 1 }
         ensures cells { cells_of self.new ≡ cells_of self.old }
         ensures moves { moves_in self.new ≡ moves_in self.old }
         ensures begun { beginning_of self.new ≡ beginning_of self.old }
@@ -155,6 +164,7 @@ impl Commander {
         ensures step { IfOk result (λ reply. PutsValue s i Nil (heap_in self.old) reply (heap_in self.new)) }
         ensures err { OnErr result (heap_in self.new ≡ heap_in self.old) }
         ensures logs { OnErr result (logs_writes self.old ≡ true) }
+        ensures log { log_length self.new ≤ log_length self.old + 1 }
         ensures cells { cells_of self.new ≡ cells_of self.old }
         ensures moves { moves_in self.new ≡ moves_in self.old }
         ensures begun { beginning_of self.new ≡ beginning_of self.old }
@@ -174,6 +184,7 @@ impl Commander {
         ensures step { IfOk result (λ reply. MakesPair d kind s t (heap_in self.old) reply (heap_in self.new)) }
         ensures err { OnErr result (heap_in self.new ≡ heap_in self.old) }
         ensures logs { OnErr result (logs_writes self.old ≡ true) }
+        ensures log { log_length self.new ≤ log_length self.old + 2 }
         ensures cells { cells_of self.new ≡ cells_of self.old }
         ensures moves { moves_in self.new ≡ moves_in self.old }
         ensures begun { beginning_of self.new ≡ beginning_of self.old }

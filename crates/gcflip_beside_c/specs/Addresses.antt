@@ -44,7 +44,7 @@ abbrev pub flips_in : HandleStage → Option MovesWords → ℕ
 flips_in (runs heap) (Some moves) = moves.flips
 flips_in s moves = 0
 
--- what a mutator takes through a safepoint: its heap, what it knows of flips, and how the collection began
+-- what a mutator takes through a safepoint: its heap, what it knows of flips, how the collection began, and the length of its log
 abbrev pub situation_of_end : End → Option Situation
 situation_of_end (ends.Running r) = Some (situation_in r.commander)
 situation_of_end (ends.Parked w) = Some (situation_left w)
@@ -54,8 +54,8 @@ abbrev pub situation_at : Option End → Option Situation
 situation_at None = None
 situation_at (Some end) = situation_of_end end
 
--- A mutator that had stopped and runs now finds all as it was, or has gone through one flip, after which its moves tell where each object went. Otherwise
--- all stays.
+-- A mutator that had stopped and runs now finds all as it was, but that the collector may have taken its log, or has gone through one flip, after which its
+-- moves tell where each object went. Otherwise all stays.
 abbrev pub ComesThrough : HandleStage → Option Situation → HandleStage → Option Situation → Type 0
 ComesThrough (parked heap) (Some old) (runs later) (Some new) = StaysOrFlips old new
 ComesThrough before old after new = new ≡ old

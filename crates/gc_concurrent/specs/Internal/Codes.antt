@@ -49,7 +49,7 @@ abbrev pub beginning_coded : Coded Beginning
 beginning_coded = code_by (HeapWords × Bool) (coded× heap_coded coded_bool) (λ b. (b.heap, b.referred)) (λ p. record { heap = p.0; referred = p.1 }) (λ _. refl)
 
 abbrev pub situation_coded : Coded Situation
-situation_coded = code_by (HeapWords × (MovesWords × Beginning)) (coded× heap_coded (coded× moves_coded beginning_coded)) (λ s. (s.heap, (s.moves, s.begun))) (λ p. record { heap = p.0; moves = p.1.0; begun = p.1.1 }) (λ _. refl)
+situation_coded = code_by (HeapWords × (MovesWords × (Beginning × ℕ))) (coded× heap_coded (coded× moves_coded (coded× beginning_coded coded_ℕ))) (λ s. (s.heap, (s.moves, (s.begun, s.logged)))) (λ p. record { heap = p.0; moves = p.1.0; begun = p.1.1.0; logged = p.1.1.1 }) (λ _. refl)
 
 abbrev pub mine_coded : Coded Mine
 mine_coded = code_by (SpaceWords × (Bool × (List (ℕ × ℕ) × Beginning))) (coded× space_coded (coded× coded_bool (coded× entries_coded beginning_coded)))

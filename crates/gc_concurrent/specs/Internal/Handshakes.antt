@@ -26,7 +26,7 @@ pub record Keeper : Type 0 where
 
 -- what a mutator without words would have
 abbrev pub nowhere : Situation
-nowhere = record { heap = no_heap; moves = no_moves; begun = begun_with no_heap }
+nowhere = record { heap = no_heap; moves = no_moves; begun = begun_with no_heap; logged = 0 }
 
 pub record HandshakeKnown : Type 0 where
   pub goes : Bool
@@ -69,7 +69,11 @@ HandshakeStands finished handshake g k homes = (handshake ≡ 3) × (g.waits ≡
 abbrev pub HandshakeSeated : ℕ → ℕ → Goer → Keeper → ℕ → HandshakeKnown → Type 0
 HandshakeSeated goes_at keeps_at g k j v = (v.goes ≡ true → (j ≡ goes_at) × (v.goer ≡ g)) × (v.keeps ≡ true → (j ≡ keeps_at) × (v.keeper ≡ k))
 
-pub record IsHandshake (s : State (Option Commander) HandshakeKnown) : Type 0 where
+-- a handshake between two steps
+abbrev pub HandshakeState : Type 0
+HandshakeState = State (Option Commander) HandshakeKnown
+
+pub record IsHandshake (s : HandshakeState) : Type 0 where
   pub goer : Goer
   pub keeper : Keeper
   pub stage : Stage
@@ -79,6 +83,10 @@ pub record IsHandshake (s : State (Option Commander) HandshakeKnown) : Type 0 wh
   pub room : length s.homes ≡ 1
   pub fits : HandshakeStands stage (slice_index s.words 0) goer keeper s.homes
   pub seats : (j : ℕ) (v : HandshakeKnown) → get_elem? s.views j ≡ some v → HandshakeSeated goes_at keeps_at goer keeper j v
+
+-- one of its seats knows this
+abbrev pub IsSeatOf : HandshakeState → HandshakeKnown → Type 0
+IsSeatOf s v = (j : ℕ) × (get_elem? s.views j ≡ some v)
 
 -- the first view
 abbrev pub handshake_opening : Commander → HandshakeKnown

@@ -255,9 +255,10 @@ pub record CatchesUp (v : View) : Type 0 where
   pub told : ComesFromSeen v.seen v.mine
   pub rests : v.mine.logs ≡ false → (v.theirs.replicas ≡ []) × (v.mine.log ≡ [])
 
--- The mutator's log becomes the collector's. Both ends know the same heap with which the collection began. All originals are objects of the mutator's space.
+-- The mutator's log becomes the collector's. Both ends know the same heap with which the collection began. All originals are objects of the mutator's space,
+-- and the replicas take no more words.
 abbrev pub tells_take : OneStep → Sat → ℕ → Sat → Type 0
-tells_take st me found me' = ((me' ≡ (logs_taken me.0, me.1)) × (me.0.theirs.base ≡ me.0.mine.base.heap) × CatchesUp me.0 × StartsThere me.0.mine me.0.theirs) × KnowsBelonging me'
+tells_take st me found me' = ((me' ≡ (logs_taken me.0, me.1)) × (me.0.theirs.base ≡ me.0.mine.base.heap) × CatchesUp me.0 × StartsThere me.0.mine me.0.theirs × (new_end (its me.0.theirs) ≤ end_of me.0.mine.space)) × KnowsBelonging me'
 
 -- The target of one of the mutator's roots is wanted. From now on writes are logged.
 abbrev pub root_wanted : ℕ → View → View

@@ -1,12 +1,13 @@
 -- Two seats become one, and the log changes hands.
-use Rattle.std.proofs.Common.{◌≡◌, ◌/◌, ◌<◌, true, ℕ, List, [], ◌++◌, length, refl, ap, sym, ◌∙◌, subst, arith}
+use Rattle.std.proofs.Common.{◌≡◌, ◌/◌, ◌<◌, ◌≤◌, true, ℕ, List, [], ◌++◌, length, refl, ap, sym, ◌∙◌, subst, arith}
 use Rattle.atomic_table.specs.Seated.{TableId}
 use Rattle.gc_heap.specs.Heap.{IsHeap, graph_in}
 use Rattle.gc_words.specs.Space.{end_of}
 use Rattle.gc_model.specs.Carried.{LeadsOnlyTo}
 use Rattle.gc_concurrent.specs.Unreachable.{MayBeCopied}
-use Rattle.gc_concurrent.specs.Ends.{Known, Mine, Theirs}
+use Rattle.gc_concurrent.specs.Ends.{Known, Mine, Theirs, its}
 use Rattle.gc_model.specs.Members.{In}
+use Rattle.gc_model.specs.State.{new_end}
 use Rattle.gc_model.proofs.Public.{in_right}
 use Rattle.gc_concurrent.specs.Internal.Knowing.{Knows}
 use Rattle.gc_concurrent.proofs.Knowing.{logs_brings}
@@ -114,3 +115,6 @@ invariant_of-result-clause-knows c =
     (knows_caught a v c.tell.new.standing (with_log v) (ap (λ (x : Sat). x.0.seen) joined) (ap (λ (x : Sat). x.0.theirs) joined) c.load.ensures.2.0.2
     (subst (λ xs. WroteEach xs a.standing c.tell.new.standing) log (c.tell.ensures.told c.tell.ensures.found)) (loose_after v c.load.new.seat.me _ took (ap (λ (x : Sat). x.0.copies) joined) c.load.ensures.2.1) (logs_brings v.mine.log v.theirs) refl
     (λ x i there. (0, in_right (x, i) v.theirs.due v.mine.log there)))
+
+pub returns-clause-fits : goal.returns-clause-fits
+returns-clause-fits c = subst (λ (x : Sat). new_end (its x.0.theirs) ≤ end_of x.0.mine.space) (sym c.load.ensures.2.0.0) c.load.ensures.2.0.4

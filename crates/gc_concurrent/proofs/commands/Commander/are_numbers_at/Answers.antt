@@ -28,6 +28,7 @@ loop-k-preserved c =
       all = (λ i. is i && others) ∙ sym (numbers_next fields c.args.from c.args.count c.loop-k.k c.loop-k-test.true c.requires.long) ∙ c.loop-k.invariant.all;
       heap = c.is_number_in.ensures.heap ∙ c.loop-k.invariant.heap;
       logs = c.is_number_in.ensures.logs ∙ c.loop-k.invariant.logs;
+      log = c.is_number_in.ensures.log ∙ c.loop-k.invariant.log;
       cells = c.is_number_in.ensures.cells ∙ c.loop-k.invariant.cells;
       moves = c.is_number_in.ensures.moves ∙ c.loop-k.invariant.moves;
       begun = c.is_number_in.ensures.begun ∙ c.loop-k.invariant.begun;

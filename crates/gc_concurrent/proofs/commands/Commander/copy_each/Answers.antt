@@ -16,6 +16,7 @@ loop-k-preserved c =
     record {
       left = λ new rest. c.loop-k.invariant.left new (copy_next c.args.d c.args.to c.args.s c.args.from c.loop-k.k c.args.count old mid new c.copy_one-put.result c.loop-k-test.true c.copy_one-put.new.self.sound c.copy_one-put.ensures.step rest);
       room = c.copy_one-put.ensures.room (c.args.count - (c.loop-k.k + 1)) (subst (λ n. HasLogRoom n c.loop-k.self) (one_more c.args.count c.loop-k.k c.loop-k-test.true) c.loop-k.invariant.room);
+      log = omega (arith, c.copy_one-put.ensures.log, c.loop-k.invariant.log);
       cells = c.copy_one-put.ensures.cells ∙ c.loop-k.invariant.cells;
       moves = c.copy_one-put.ensures.moves ∙ c.loop-k.invariant.moves;
       begun = c.copy_one-put.ensures.begun ∙ c.loop-k.invariant.begun;

@@ -18,6 +18,7 @@ loop-k-preserved c =
       left = λ new rest. c.loop-k.invariant.left new (fill_next c.args.s c.args.from c.args.t c.loop-k.k c.args.count old mid new c.put-put.result c.loop-k-test.true c.put-put.new.self.sound
           (put_does old mid c.args.s (c.args.from + c.loop-k.k) c.args.t c.put-put.result (record { roots = c.put-put.ensures.roots; words = c.put-put.ensures.end.0; size = c.put-put.ensures.end.1; graph = c.put-put.ensures.graph })) rest);
       room = c.put-put.ensures.room (c.args.count - (c.loop-k.k + 1)) (subst (λ n. HasLogRoom n c.loop-k.self) (one_more (c.args.count) c.loop-k.k c.loop-k-test.true) c.loop-k.invariant.room);
+      log = omega (arith, c.put-put.ensures.log, c.loop-k.invariant.log);
       cells = c.put-put.ensures.cells ∙ c.loop-k.invariant.cells;
       moves = c.put-put.ensures.moves ∙ c.loop-k.invariant.moves;
       begun = c.put-put.ensures.begun ∙ c.loop-k.invariant.begun;

@@ -15,6 +15,7 @@ loop-k-preserved c =
     record {
       left = λ new rest. c.loop-k.invariant.left new (get_next c.args.first c.args.s c.loop-k.k c.args.count old mid new c.get_root-got.result c.loop-k-test.true c.get_root-got.new.self.sound
           (subst (λ k. Does old (Get (root_at (c.args.first + k)) (root_at c.args.s) c.loop-k.k) c.get_root-got.result mid) c.from.ensures c.get_root-got.ensures.step) rest);
+      log = c.get_root-got.ensures.log ∙ c.loop-k.invariant.log;
       cells = c.get_root-got.ensures.cells ∙ c.loop-k.invariant.cells;
       moves = c.get_root-got.ensures.moves ∙ c.loop-k.invariant.moves;
       begun = c.get_root-got.ensures.begun ∙ c.loop-k.invariant.begun;

@@ -19,6 +19,7 @@ loop-k-preserved c =
       left = λ new rest. c.loop-k.invariant.left new (put_next c.args.d c.loop-k.k c.args.places.now old mid new c.put-put.result c.loop-k-test.true c.put-put.new.self.sound
           (put_does old mid c.args.d c.loop-k.k (slice_index c.args.places.now c.loop-k.k) c.put-put.result (record { roots = c.put-put.ensures.roots; words = c.put-put.ensures.end.0; size = c.put-put.ensures.end.1; graph = c.put-put.ensures.graph })) rest);
       room = c.put-put.ensures.room (length c.args.places.now - (c.loop-k.k + 1)) (subst (λ n. HasLogRoom n c.loop-k.self) (one_more (length c.args.places.now) c.loop-k.k c.loop-k-test.true) c.loop-k.invariant.room);
+      log = omega (arith, c.put-put.ensures.log, c.loop-k.invariant.log);
       cells = c.put-put.ensures.cells ∙ c.loop-k.invariant.cells;
       moves = c.put-put.ensures.moves ∙ c.loop-k.invariant.moves;
       begun = c.put-put.ensures.begun ∙ c.loop-k.invariant.begun;

@@ -23,6 +23,7 @@ loop-k-preserved c =
       left = λ new rest. c.loop-k.invariant.left new (row_next c.args.d c.loop-k.k c.args.first c.args.count old mid new c.put-put.result c.loop-k-test.true c.put-put.new.self.sound
           (subst (λ k. Does old (Put (root_at c.args.d) c.loop-k.k (root_at (c.args.first + k))) c.put-put.result mid) c.from.ensures puts) rest);
       room = c.put-put.ensures.room (c.args.count - (c.loop-k.k + 1)) (subst (λ n. HasLogRoom n c.loop-k.self) (one_more (c.args.count) c.loop-k.k c.loop-k-test.true) c.loop-k.invariant.room);
+      log = omega (arith, c.put-put.ensures.log, c.loop-k.invariant.log);
       cells = c.put-put.ensures.cells ∙ c.loop-k.invariant.cells;
       moves = c.put-put.ensures.moves ∙ c.loop-k.invariant.moves;
       begun = c.put-put.ensures.begun ∙ c.loop-k.invariant.begun;

@@ -1,8 +1,8 @@
 -- With the roots of the row that are left, all values are put. The log has room for them.
-use Rattle.std.proofs.Common.{◌≡◌, ◌+◌, ◌-◌, length}
+use Rattle.std.proofs.Common.{◌≡◌, ◌≤◌, ◌+◌, ◌-◌, length}
 use Rattle.gc_heap.specs.Heap.{HeapWords}
 use Rattle.gc_concurrent.specs.Bulk.{places_from, put_commands, PerformsEach}
-use Rattle.gc_concurrent.specs.Holders.{beginning_of, cells_of, heap_in, moves_in}
+use Rattle.gc_concurrent.specs.Holders.{beginning_of, cells_of, heap_in, log_length, moves_in}
 use Rattle.gc_concurrent.specs.Internal.LogRoom.{HasLogRoom}
 use Rattle.gc_concurrent.proofs.commands.Commander.put_row.Given as goal
 
@@ -10,6 +10,7 @@ abbrev pub invariant-loop-k : goal.invariant-loop-k
 invariant-loop-k l = record {
   left : (new : HeapWords) → PerformsEach (put_commands l.d l.k (places_from (l.first + l.k) (l.count - l.k))) (heap_in l.self) new → PerformsEach (put_commands l.d 0 (places_from l.first l.count)) (heap_in l.fn.self) new;
   room : HasLogRoom (l.count - l.k) l.self;
+  log : log_length l.self ≤ log_length l.fn.self + l.k;
   cells : cells_of l.self ≡ cells_of l.fn.self;
   moves : moves_in l.self ≡ moves_in l.fn.self;
   begun : beginning_of l.self ≡ beginning_of l.fn.self;

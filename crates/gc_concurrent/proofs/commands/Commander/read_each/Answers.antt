@@ -25,6 +25,7 @@ loop-k-preserved c =
     record {
       read = (λ i. slice_set (c.loop-k.invariant.read i) k c.number_at.result) ∙ set_next row old k c.number_at.result (sym whole) (omega (arith, less, whole)) x ∙ (λ i. take (one i) row ++ drop (one i) old);
       heap = c.number_at.ensures.heap ∙ c.loop-k.invariant.heap;
+      log = c.number_at.ensures.log ∙ c.loop-k.invariant.log;
       cells = c.number_at.ensures.cells ∙ c.loop-k.invariant.cells;
       moves = c.number_at.ensures.moves ∙ c.loop-k.invariant.moves;
       begun = c.number_at.ensures.begun ∙ c.loop-k.invariant.begun;

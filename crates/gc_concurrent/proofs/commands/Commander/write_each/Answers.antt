@@ -38,6 +38,7 @@ loop-k-preserved c =
     record {
       left = λ new rest. c.loop-k.invariant.left new (write_next c.args.s c.args.first c.loop-k.k c.args.numbers.now old mid new c.write-put.result c.loop-k-test.true c.write-put.new.self.sound puts rest);
       room = c.write-put.ensures.room (count - (c.loop-k.k + 1)) (subst (λ n. HasLogRoom n c.loop-k.self) (one_more count c.loop-k.k c.loop-k-test.true) c.loop-k.invariant.room);
+      log = omega (arith, c.write-put.ensures.log, c.loop-k.invariant.log);
       cells = c.write-put.ensures.cells ∙ c.loop-k.invariant.cells;
       moves = c.write-put.ensures.moves ∙ c.loop-k.invariant.moves;
       begun = c.write-put.ensures.begun ∙ c.loop-k.invariant.begun;

@@ -7,7 +7,7 @@ use Rattle.gc_graph.specs.Graph.{Value, Ref}
 use Rattle.gc_words.specs.Closed.{IsWordOfField}
 use Rattle.gc_words.specs.Layout.{field_place}
 use Rattle.gc_words.specs.Image.{field_at}
-use Rattle.gc_words.specs.Space.{SpaceWords, IsSpace, with_field_at}
+use Rattle.gc_words.specs.Space.{SpaceWords, with_field_at}
 use Rattle.gc_words.specs.declared.header.Header.{Header}
 use Rattle.gc_words.proofs.Public.{field_within}
 use Rattle.gc_model.specs.State.{Replica, replica_of, moved}
@@ -32,7 +32,7 @@ use Rattle.gc_concurrent.specs.Internal.Following.{Follows}
 use Rattle.gc_concurrent.specs.Internal.Knowing.{Brings, Compared, Knows}
 use Rattle.gc_concurrent.proofs.Knowing.{applied_brings, left_brings, wants_brings}
 use Rattle.gc_concurrent.proofs.Known.{has_passed, is_found, its_origin, knows_compared, knows_kept}
-use Rattle.gc_concurrent.proofs.Comparing.{theirs_seen, copies_seen, keeps_seen, nears_seen, loose_seen, along_still, along_written, can_compare, field_again, word_there}
+use Rattle.gc_concurrent.proofs.Comparing.{theirs_seen, copies_seen, keeps_seen, nears_seen, loose_seen, along_still, along_written, can_compare, word_there}
 use Rattle.gc_concurrent.proofs.copier.Copier.apply_one.Goals as goal
 use Rattle.gc_concurrent.proofs.copier.Copier.apply_one.Goals.{After-load-word}
 
@@ -195,17 +195,17 @@ moved_field-requires-clause-inside c x is =
 pub moved_field-requires-clause-places : goal.moved_field-requires-clause-places
 moved_field-requires-clause-places c = subst (λ (row : List ℕ). (a : ℕ) → slice_index row a < 4294967295) (sym c.as_slice-2.ensures.value) (claim_low c.args.self.now.claims.items c.args.self.now.seat.me.0.theirs c.args.self.now.loose c.args.self.now.claimed)
 
-pub set_field-requires-clause-there : goal.set_field-requires-clause-there
-set_field-requires-clause-there c =
-    let l = (goal.at.set_field-requires-clause-there c).After-load-word in
+pub wrote-written-requires-clause-there : goal.wrote-written-requires-clause-there
+wrote-written-requires-clause-there c =
+    let l = (goal.at.wrote-written-requires-clause-there c).After-load-word in
     let a = c.args.self.now in
     subst (λ (x : SpaceWords). IsSome (field_at x.words c.index-place.result.now c.in-Some.oldest.field)) (sym c.header-header.ensures.same)
     (field_within a.space.words c.index-place.result.now c.in-Some.oldest.field c.header-header.result a.shaped.walked c.header-header.ensures.value (within l))
 
 -- what was written is a number, or refers to replicas
-pub set_field-requires-clause-fits : goal.set_field-requires-clause-fits
-set_field-requires-clause-fits c =
-    let l = (goal.at.set_field-requires-clause-fits c).After-load-word in
+pub wrote-written-requires-clause-fits : goal.wrote-written-requires-clause-fits
+wrote-written-requires-clause-fits c =
+    let l = (goal.at.wrote-written-requires-clause-fits c).After-load-word in
     let raw : (q l).object.raw ≡ c.is_raw.result = raw_is l c.is_raw.result c.is_raw.ensures in
     let to : (x : ℕ) → read_as c.is_raw.result c.load-word.result ≡ Ref x → v l ≡ Ref x = λ x is. ap (λ b. read_as b c.load-word.result) raw ∙ is in
     let word : IsWordOfField c.is_raw.result (a l).space.words c.in-Ok.moved = field_word_moved c.is_raw.result (a l).claims.items (t l) (a l).space c.load-word.result c.in-Ok.moved (mem (a l)) (a l).claimed
@@ -258,13 +258,6 @@ only_values a name first q k e b raw w x is = go a.fill_left refl
     go zero z = z
     go (suc n) z = absurd (refers b (sym raw ∙ a.fills q k (e ∙ first (λ y. absurd (omega arith))) (λ y. absurd (omega arith))) is)
 
-pub field-written-requires : goal.field-written-requires
-field-written-requires c =
-    let l = (goal.at.field-written-requires c).After-load-word in
-    field_again (a l).space c.set_field.new.self (place l) (i l) c.in-Ok.moved (a l).shaped
-    (field_within (a l).space.words (place l) (i l) c.header-header.result (a l).shaped.walked c.header-header.ensures.value (within l))
-    (c.set_field.ensures.words ∙ ap (λ (s : SpaceWords). with_field_at s (place l) (i l) c.in-Ok.moved) c.header-header.ensures.same)
-
 pub compare-requires-clause-copies : goal.compare-requires-clause-copies
 compare-requires-clause-copies c =
     let l = (goal.at.compare-requires-clause-copies c).After-load-word in
@@ -291,11 +284,11 @@ invariant_of-self-in-Ok c =
     (field_within (a l).space.words (place l) (i l) c.header-header.result (a l).shaped.walked c.header-header.ensures.value (within l)) in
     let there_field : IsSome (field_at (a l).space.words (place l) (i l)) = field_within (a l).space.words (place l) (i l) c.header-header.result (a l).shaped.walked c.header-header.ensures.value (within l) in
     let wrote : u.replicas ≡ replicas_in (with_field_at (a l).space (q l).place (i l) c.in-Ok.moved).words = written_same (t l) (a l).space (q l) (i l) c.in-Ok.moved (v l) (mem (a l)) (a l).loose s.there there means in
-    let space : c.field-written.new.self ≡ with_field_at (a l).space (q l).place (i l) c.in-Ok.moved = c.field-written.ensures.same ∙ c.set_field.ensures.words ∙ (λ j. with_field_at (c.header-header.ensures.same j) (sym s.place_is j) (i l) c.in-Ok.moved) in
+    let space : c.wrote-written.new.space ≡ with_field_at (a l).space (q l).place (i l) c.in-Ok.moved = c.wrote-written.ensures.words ∙ (λ j. with_field_at (c.header-header.ensures.same j) (sym s.place_is j) (i l) c.in-Ok.moved) in
     record {
       row = ((a l).row.0 ∙ sym (c.compare.ensures.row ∙ c.load-word.ensures.0), ap (λ (i : TableId). i.words) (c.compare.ensures.row ∙ c.load-word.ensures.0) ∙ (a l).row.1, (a l).row.2);
       copies = copies;
-      shaped = subst IsSpace (sym c.field-written.ensures.same) c.set_field.ensures.shaped;
+      shaped = c.wrote-written.ensures.shaped;
       sized = (ap (λ (x : Theirs). x.old) is ∙ (a l).sized.0, ap (λ (x : SpaceWords). x.size) space ∙ ((a l).sized.1 ∙ sym (ap (λ (x : Theirs). x.size) is)));
       same = ap (λ (x : Theirs). x.replicas) is ∙ (wrote ∙ ap (λ (x : SpaceWords). replicas_in x.words) (sym space));
       scans = (ap (λ (x : Theirs). x.scan_place) is ∙ (a l).scans.0, ap (λ (x : Theirs). x.scan_field) is ∙ (a l).scans.1);
@@ -309,20 +302,20 @@ invariant_of-self-in-Ok c =
       fills = λ p k e n. fills_on (a l) (q l).original (i l) (moved (its (t l)) (v l)) p (subst (In p) (ap (λ (x : Theirs). x.replicas) is) k) e (λ z. n (let f = c.in-Some.ensures.fills.0 in omega arith));
       claimed = subst (Claims (a l).claims.items) (sym is) (claims_as (a l).claims.items (brought (q l).original (i l) (v l) (t l)) u refl refl (claims_kept (a l).claims.items (t l) (q l).original (i l) (v l) (a l).claimed));
       loose = loose_seen c.load-word.new.seat.me c.compare.new.seat.me _ c.compare.ensures.seen (loose l);
-      along = along_written (a l).standing c.compare.new.standing (a l).seat.me.0.seen c.compare.new.seat.me.0.seen (a l).space c.set_field.new.self c.field-written.new.self
-          (place l) (i l) c.word.result c.in-Ok.moved c.field-written.result (a l).shaped there_field (c.set_field.ensures.words ∙ ap (λ (s : SpaceWords). with_field_at s (place l) (i l) c.in-Ok.moved) c.header-header.ensures.same) c.field-written.ensures.same
-          c.field-written.ensures.value (word_there (a l).space.words (place l) c.word.result c.header-header.result (a l).shaped.walked c.header-header.ensures.value c.word.ensures.word)
-          (λ ws. subst (λ z. slice_index ws (place l) ≡ c.word.result → field_place (place l) (i l) < length ws → ∥ Follows (a l).standing z ws ∥₁ → ∥ Follows c.compare.new.standing c.compare.new.seat.me.0.seen (slice_set ws (field_place (place l) (i l)) c.field-written.result) ∥₁) (ap (λ (m : Sat). m.0.seen) went) (c.compare.ensures.along ws)) (a l).along;
-      knows = subst (λ (y : Theirs). ∥ Knows c.compare.new.standing c.compare.new.seat.me.0.seen c.field-written.new.self.words y ∥₁) (sym is)
-          (knows_compared (a l) c.compare.new.standing c.compare.new.seat.me.0.seen c.set_field.new.self c.field-written.new.self (q l) (place l) (i l) c.word.result c.in-Ok.moved c.field-written.result u
+      along = along_written (a l).standing c.compare.new.standing (a l).seat.me.0.seen c.compare.new.seat.me.0.seen (a l).space c.wrote-written.new.space c.wrote-written.new.space
+          (place l) (i l) c.word.result c.in-Ok.moved c.wrote-written.result (a l).shaped there_field (c.wrote-written.ensures.words ∙ ap (λ (s : SpaceWords). with_field_at s (place l) (i l) c.in-Ok.moved) c.header-header.ensures.same) refl
+          c.wrote-written.ensures.value (word_there (a l).space.words (place l) c.word.result c.header-header.result (a l).shaped.walked c.header-header.ensures.value c.word.ensures.word)
+          (λ ws. subst (λ z. slice_index ws (place l) ≡ c.word.result → field_place (place l) (i l) < length ws → ∥ Follows (a l).standing z ws ∥₁ → ∥ Follows c.compare.new.standing c.compare.new.seat.me.0.seen (slice_set ws (field_place (place l) (i l)) c.wrote-written.result) ∥₁) (ap (λ (m : Sat). m.0.seen) went) (c.compare.ensures.along ws)) (a l).along;
+      knows = subst (λ (y : Theirs). ∥ Knows c.compare.new.standing c.compare.new.seat.me.0.seen c.wrote-written.new.space.words y ∥₁) (sym is)
+          (knows_compared (a l) c.compare.new.standing c.compare.new.seat.me.0.seen c.wrote-written.new.space c.wrote-written.new.space (q l) (place l) (i l) c.word.result c.in-Ok.moved c.wrote-written.result u
           (r l).0.there (r l).0.place_is (r l).3
           (word_there (a l).space.words (place l) c.word.result c.header-header.result (a l).shaped.walked c.header-header.ensures.value c.word.ensures.word)
-          there_field (c.set_field.ensures.words ∙ ap (λ (s : SpaceWords). with_field_at s (place l) (i l) c.in-Ok.moved) c.header-header.ensures.same) c.field-written.ensures.same c.field-written.ensures.value
+          there_field (c.wrote-written.ensures.words ∙ ap (λ (s : SpaceWords). with_field_at s (place l) (i l) c.in-Ok.moved) c.header-header.ensures.same) refl c.wrote-written.ensures.value
           (subst (λ z. slice_index (a l).space.words (place l) ≡ c.word.result → field_place (place l) (i l) < length (a l).space.words → ∥ Follows (a l).standing z (a l).space.words ∥₁
-          → ∥ Compared (place l) (i l) (a l).standing c.compare.new.standing z c.compare.new.seat.me.0.seen (slice_set (a l).space.words (field_place (place l) (i l)) c.field-written.result) ∥₁)
+          → ∥ Compared (place l) (i l) (a l).standing c.compare.new.standing z c.compare.new.seat.me.0.seen (slice_set (a l).space.words (field_place (place l) (i l)) c.wrote-written.result) ∥₁)
           (ap (λ (m : Sat). m.0.seen) went) (c.compare.ensures.compared (a l).space.words))
           (subst (λ z. Brings (λ p. p ≡ field_place z (i l)) (t l) u) (r l).0.place_is (applied_brings (t l) (q l) (i l) (v l) _ (a l).loose (r l).0.there (r l).2)));
-      spared = still_spared (a l) c.field-written.new.self.size (ap (λ (x : SpaceWords). x.size) space);
+      spared = still_spared (a l) c.wrote-written.new.space.size (ap (λ (x : SpaceWords). x.size) space);
     }
 
 pub invariant_of-self-in-Err : goal.invariant_of-self-in-Err

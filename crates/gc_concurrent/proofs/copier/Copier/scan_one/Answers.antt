@@ -8,7 +8,7 @@ use Rattle.gc_words.specs.Layout.{field_place}
 use Rattle.gc_words.specs.Image.{is_start, field_at}
 use Rattle.gc_words.specs.Spelling.{link_at}
 use Rattle.gc_words.specs.Closed.{IsWordOfField}
-use Rattle.gc_words.specs.Space.{SpaceWords, IsSpace, with_field_at}
+use Rattle.gc_words.specs.Space.{SpaceWords, with_field_at}
 use Rattle.gc_words.specs.declared.header.Header.{Header}
 use Rattle.gc_words.proofs.Public.{field_within}
 use Rattle.gc_model.specs.State.{Replica, moved}
@@ -30,7 +30,7 @@ use Rattle.gc_concurrent.specs.Internal.Following.{Follows}
 use Rattle.gc_concurrent.specs.Internal.Knowing.{Brings, Compared, Knows}
 use Rattle.gc_concurrent.proofs.Knowing.{passed_brings, scanned_brings, wants_brings}
 use Rattle.gc_concurrent.proofs.Known.{has_passed, is_found, its_origin, knows_compared, knows_kept}
-use Rattle.gc_concurrent.proofs.Comparing.{theirs_seen, copies_seen, keeps_seen, nears_seen, loose_seen, along_still, along_written, can_compare, field_again, word_there}
+use Rattle.gc_concurrent.proofs.Comparing.{theirs_seen, copies_seen, keeps_seen, nears_seen, loose_seen, along_still, along_written, can_compare, word_there}
 use Rattle.gc_concurrent.proofs.copier.Copier.scan_one.Goals as goal
 use Rattle.gc_concurrent.proofs.copier.Copier.scan_one.Goals.{After-load-word}
 
@@ -174,16 +174,16 @@ moved_word-requires-clause-places c = subst (λ (row : List ℕ). (a : ℕ) → 
 still : (c : After-load-word) → c.link.new.self ≡ (a c).space
 still c = c.link.ensures.same ∙ c.header-header.ensures.same
 
-pub set_field-requires-clause-there : goal.set_field-requires-clause-there
-set_field-requires-clause-there c =
+pub wrote-written-requires-clause-there : goal.wrote-written-requires-clause-there
+wrote-written-requires-clause-there c =
     let a = c.args.self.now in
-    subst (λ (x : SpaceWords). IsSome (field_at x.words a.scan_place a.scan_field)) (sym (still (goal.at.set_field-requires-clause-there c).After-load-word))
+    subst (λ (x : SpaceWords). IsSome (field_at x.words a.scan_place a.scan_field)) (sym (still (goal.at.wrote-written-requires-clause-there c).After-load-word))
     (field_within a.space.words a.scan_place a.scan_field c.header-header.result a.shaped.walked c.header-header.ensures.value (c.is_scanned.ensures.left c.if-is_scanned.false).1)
 
 -- what was written refers to replicas
-pub set_field-requires-clause-fits : goal.set_field-requires-clause-fits
-set_field-requires-clause-fits c =
-    let l = (goal.at.set_field-requires-clause-fits c).After-load-word in
+pub wrote-written-requires-clause-fits : goal.wrote-written-requires-clause-fits
+wrote-written-requires-clause-fits c =
+    let l = (goal.at.wrote-written-requires-clause-fits c).After-load-word in
     let plain = (c.is_scanned.ensures.left c.if-is_scanned.false).0 in
     let word : IsWordOfField false (a l).space.words c.in-Ok.moved = field_word_moved false (a l).claims.items (t l) (a l).space c.load-word.result c.in-Ok.moved (mem (a l)) (a l).claimed (told l).0
     (c.in-Ok.ensures.moved ∙ ap (λ (r : List ℕ). moved_by r (v l)) c.as_slice.ensures.value) (λ _. c.in-Ok.ensures.value) (own l)
@@ -208,14 +208,6 @@ none_lacks c row e ne =
 
 one_lacks : (c : After-load-word) (row : List ℕ) (x : ℕ) → row ≡ (a c).claims.items → v c ≡ Ref x → slice_index row (half x) ≡ 0 → lacks (its (t c)) (v c) ≡ Some x
 one_lacks c row x e is zero = lacks_so (a c).claims.items (t c) (v c) x (a c).loose (a c).claimed (own c x is) is (ap (λ (r : List ℕ). slice_index r (half x)) (sym e) ∙ zero)
-
-pub field-written-requires : goal.field-written-requires
-field-written-requires c =
-    let l = (goal.at.field-written-requires c).After-load-word in
-    let a = c.args.self.now in
-    field_again a.space c.set_field.new.self a.scan_place a.scan_field c.in-Ok.moved a.shaped
-    (field_within a.space.words a.scan_place a.scan_field c.header-header.result a.shaped.walked c.header-header.ensures.value (c.is_scanned.ensures.left c.if-is_scanned.false).1)
-    (c.set_field.ensures.words ∙ ap (λ (s : SpaceWords). with_field_at s a.scan_place a.scan_field c.in-Ok.moved) (still l))
 
 pub compare-requires-clause-copies : goal.compare-requires-clause-copies
 compare-requires-clause-copies c =
@@ -261,11 +253,11 @@ invariant_of-self-in-Ok c =
     (field_within (a l).space.words (a l).scan_place (a l).scan_field c.header-header.result (a l).shaped.walked c.header-header.ensures.value (c.is_scanned.ensures.left c.if-is_scanned.false).1) in
     let there_field : IsSome (field_at (a l).space.words (a l).scan_place (a l).scan_field) = field_within (a l).space.words (a l).scan_place (a l).scan_field c.header-header.result (a l).shaped.walked c.header-header.ensures.value (c.is_scanned.ensures.left c.if-is_scanned.false).1 in
     let wrote : u.replicas ≡ replicas_in (with_field_at (a l).space (q l).place (t l).scan_field c.in-Ok.moved).words = written_same (t l) (a l).space (q l) (t l).scan_field c.in-Ok.moved (v l) (mem (a l)) (a l).loose s.there there means in
-    let space : c.field-written.new.self ≡ with_field_at (a l).space (q l).place (t l).scan_field c.in-Ok.moved = c.field-written.ensures.same ∙ c.set_field.ensures.words ∙ (λ i. with_field_at (still l i) (sym s.place_is i) (sym (a l).scans.1 i) c.in-Ok.moved) in
+    let space : c.wrote-written.new.space ≡ with_field_at (a l).space (q l).place (t l).scan_field c.in-Ok.moved = c.wrote-written.ensures.words ∙ (λ i. with_field_at (still l i) (sym s.place_is i) (sym (a l).scans.1 i) c.in-Ok.moved) in
     record {
       row = ((a l).row.0 ∙ sym (c.compare.ensures.row ∙ c.load-word.ensures.0), ap (λ (i : TableId). i.words) (c.compare.ensures.row ∙ c.load-word.ensures.0) ∙ (a l).row.1, (a l).row.2);
       copies = copies;
-      shaped = subst IsSpace (sym c.field-written.ensures.same) c.set_field.ensures.shaped;
+      shaped = c.wrote-written.ensures.shaped;
       sized = (ap (λ (x : Theirs). x.old) is ∙ (a l).sized.0, ap (λ (x : SpaceWords). x.size) space ∙ ((a l).sized.1 ∙ sym (ap (λ (x : Theirs). x.size) is)));
       same = ap (λ (x : Theirs). x.replicas) is ∙ (wrote ∙ ap (λ (x : SpaceWords). replicas_in x.words) (sym space));
       scans = (ap (λ (x : Theirs). x.scan_place) is ∙ (a l).scans.0, (let e = ap (λ (x : Theirs). x.scan_field) is in let f = (a l).scans.1 in omega arith));
@@ -275,20 +267,20 @@ invariant_of-self-in-Ok c =
       fills = λ q k e n. absurd (n c.requires.filled);
       claimed = subst (Claims (a l).claims.items) (sym is) (claims_as (a l).claims.items (brought (q l).original (t l).scan_field (v l) (t l)) u refl refl (claims_kept (a l).claims.items (t l) (q l).original (t l).scan_field (v l) (a l).claimed));
       loose = loose_seen c.load-word.new.seat.me c.compare.new.seat.me _ c.compare.ensures.seen (loose l);
-      along = along_written (a l).standing c.compare.new.standing (a l).seat.me.0.seen c.compare.new.seat.me.0.seen (a l).space c.set_field.new.self c.field-written.new.self
-          (a l).scan_place (a l).scan_field c.word.result c.in-Ok.moved c.field-written.result (a l).shaped (there_field) (c.set_field.ensures.words ∙ ap (λ (s : SpaceWords). with_field_at s (a l).scan_place (a l).scan_field c.in-Ok.moved) (still l)) c.field-written.ensures.same
-          c.field-written.ensures.value (word_there (a l).space.words (a l).scan_place c.word.result c.header-header.result (a l).shaped.walked c.header-header.ensures.value c.word.ensures.word)
-          (λ ws. subst (λ z. slice_index ws (a l).scan_place ≡ c.word.result → field_place (a l).scan_place (a l).scan_field < length ws → ∥ Follows (a l).standing z ws ∥₁ → ∥ Follows c.compare.new.standing c.compare.new.seat.me.0.seen (slice_set ws (field_place (a l).scan_place (a l).scan_field) c.field-written.result) ∥₁) (ap (λ (m : Sat). m.0.seen) went) (c.compare.ensures.along ws)) (a l).along;
-      knows = subst (λ (y : Theirs). ∥ Knows c.compare.new.standing c.compare.new.seat.me.0.seen c.field-written.new.self.words y ∥₁) (sym is)
-          (knows_compared (a l) c.compare.new.standing c.compare.new.seat.me.0.seen c.set_field.new.self c.field-written.new.self s.replica (a l).scan_place (a l).scan_field c.word.result c.in-Ok.moved c.field-written.result u
+      along = along_written (a l).standing c.compare.new.standing (a l).seat.me.0.seen c.compare.new.seat.me.0.seen (a l).space c.wrote-written.new.space c.wrote-written.new.space
+          (a l).scan_place (a l).scan_field c.word.result c.in-Ok.moved c.wrote-written.result (a l).shaped (there_field) (c.wrote-written.ensures.words ∙ ap (λ (s : SpaceWords). with_field_at s (a l).scan_place (a l).scan_field c.in-Ok.moved) (still l)) refl
+          c.wrote-written.ensures.value (word_there (a l).space.words (a l).scan_place c.word.result c.header-header.result (a l).shaped.walked c.header-header.ensures.value c.word.ensures.word)
+          (λ ws. subst (λ z. slice_index ws (a l).scan_place ≡ c.word.result → field_place (a l).scan_place (a l).scan_field < length ws → ∥ Follows (a l).standing z ws ∥₁ → ∥ Follows c.compare.new.standing c.compare.new.seat.me.0.seen (slice_set ws (field_place (a l).scan_place (a l).scan_field) c.wrote-written.result) ∥₁) (ap (λ (m : Sat). m.0.seen) went) (c.compare.ensures.along ws)) (a l).along;
+      knows = subst (λ (y : Theirs). ∥ Knows c.compare.new.standing c.compare.new.seat.me.0.seen c.wrote-written.new.space.words y ∥₁) (sym is)
+          (knows_compared (a l) c.compare.new.standing c.compare.new.seat.me.0.seen c.wrote-written.new.space c.wrote-written.new.space s.replica (a l).scan_place (a l).scan_field c.word.result c.in-Ok.moved c.wrote-written.result u
           s.there s.place_is (let m = (left l).1 in let e = (a l).scans.1 in omega arith)
           (word_there (a l).space.words (a l).scan_place c.word.result c.header-header.result (a l).shaped.walked c.header-header.ensures.value c.word.ensures.word)
-          there_field (c.set_field.ensures.words ∙ ap (λ (s : SpaceWords). with_field_at s (a l).scan_place (a l).scan_field c.in-Ok.moved) (still l)) c.field-written.ensures.same c.field-written.ensures.value
+          there_field (c.wrote-written.ensures.words ∙ ap (λ (s : SpaceWords). with_field_at s (a l).scan_place (a l).scan_field c.in-Ok.moved) (still l)) refl c.wrote-written.ensures.value
           (subst (λ z. slice_index (a l).space.words (a l).scan_place ≡ c.word.result → field_place (a l).scan_place (a l).scan_field < length (a l).space.words → ∥ Follows (a l).standing z (a l).space.words ∥₁
-          → ∥ Compared (a l).scan_place (a l).scan_field (a l).standing c.compare.new.standing z c.compare.new.seat.me.0.seen (slice_set (a l).space.words (field_place (a l).scan_place (a l).scan_field) c.field-written.result) ∥₁)
+          → ∥ Compared (a l).scan_place (a l).scan_field (a l).standing c.compare.new.standing z c.compare.new.seat.me.0.seen (slice_set (a l).space.words (field_place (a l).scan_place (a l).scan_field) c.wrote-written.result) ∥₁)
           (ap (λ (m : Sat). m.0.seen) went) (c.compare.ensures.compared (a l).space.words))
           (subst (λ (z : ℕ × ℕ). Brings (λ p. p ≡ field_place z.0 z.1) (t l) u) (λ n. (s.place_is n, (a l).scans.1 n)) (scanned_brings (t l) s.replica (v l) (s.place_is ∙ sym (a l).scans.0))));
-      spared = still_spared (a l) c.field-written.new.self.size (ap (λ (x : SpaceWords). x.size) space);
+      spared = still_spared (a l) c.wrote-written.new.space.size (ap (λ (x : SpaceWords). x.size) space);
     }
 
 pub invariant_of-self-in-Err : goal.invariant_of-self-in-Err

@@ -13,5 +13,5 @@ store-requires c =
     let t = c.compare_exchange-found.ensures.2.1 c.if-found-ne1.true in (
       c.compare_exchange-found.ensures.0 ∙ handshake_tied _ _ _ c.deref-then-found-ne1.ensures a.row.0,
       handshake_word _ _ _ c.deref-then-found-ne1.ensures a.row.0 a.row.1,
-      goes_at _ _ _ (took_it t.0 a.seat.me.0) t.0 (taken_alone a.seat.me _ _ _ a.holds t.2) a.keeps.0 refl (inl refl),
+      goes_at _ _ _ (took_it t.0 a.seat.me.0) t.0 (taken_alone a.seat.me _ _ _ a.holds t.2) a.keeps.0 refl (inl (inl refl)),
     )

@@ -17,7 +17,7 @@ store-requires g c =
     let a = c.args.self in (
       c.exchange-spare.ensures.0 ∙ handshake_tied _ _ _ c.deref-2.ensures a.row.0,
       handshake_word _ _ _ c.deref-2.ensures a.row.0 a.row.1,
-      goes_at _ _ _ a.seat.me.0 c.in-Ok.all.0 (filled a.seat.me _ _ _ a.holds c.exchange-spare.ensures.3) a.keeps.0 a.keeps.1 (inr (subst (λ s. FlipsTo s (situation_in c.in-Ok.all.0)) (λ i. record { heap = a.took.0 i; moves = a.took.1 i; begun = a.since i }) c.in-Ok.ensures.ok)),
+      goes_at _ _ _ a.seat.me.0 c.in-Ok.all.0 (filled a.seat.me _ _ _ a.holds c.exchange-spare.ensures.3) a.keeps.0 a.keeps.1 (inr (subst (λ s. FlipsTo s (situation_in c.in-Ok.all.0)) (λ i. record { heap = a.took.0 i; moves = a.took.1 i; begun = a.since i; logged = a.seat.me.0.keeper.took.logged }) (c.in-Ok.ensures.ok a.seat.me.0.keeper.took.logged))),
     )
 
 pub exchange-spare-requires : goal.exchange-spare-requires

@@ -102,7 +102,7 @@ returns-clause-ready g c =
     ready_in h.copier.seat.me.0.mine h.copier.seat.me.0.theirs h.roots.items d.applied d.scanned d.rooted
 
 pub returns-clause-ok : goal.returns-clause-ok
-returns-clause-ok g c =
+returns-clause-ok g c logged =
     let h = c.args.self in
     let b = c.take_spare.new.self in
     let t = h.copier.seat.me.0.theirs in
@@ -117,6 +117,7 @@ returns-clause-ok g c =
           (moves_in c.begin-commander.result.0) (ap (λ (m : MovesWords). m.row) moves);
       counted = ap (λ (m : MovesWords). m.flips) moves ∙ ap (λ (m : MovesWords). (m.flips + 1) % 2 ^ 64) c.certify.ensures.moves;
       fresh = c.begin-commander.ensures.begun ∙ ap begun_with (sym c.begin-commander.ensures.heap);
+      taken = ap (length {A = ℕ × ℕ}) c.begin-commander.ensures.log;
     }
 
 pub begin-commander-requires-clause-along : goal.begin-commander-requires-clause-along
