@@ -6,7 +6,7 @@ import re
 KEPT = 256
 
 HEAD = re.compile(r"""(?m)^(?: *(?://|#\[).*\n)* *(?:pub(?:\([^)]*\))? )?(?:(?:(?:const|unsafe|extern "C") )*fn (\w+)|(?:const|struct|enum|trait|impl)\b[^\n{]*)""")
-IMPL = re.compile(r"impl(?:<[^>]*>)? *(?:(?:\w+::)*(\w+(?:<\w+>)?) for )?(\w+)")
+IMPL = re.compile(r"impl(?:<[^>]*>)? *(?:(?:\w+::)*(\w+(?:<\w+>)?) for )?(&\[)?(\w+)")
 # In the layout of `rt fmt`, each clause begins a line, and so do the ghost members of a type.
 CLAUSE = re.compile(r" *(?:requires|ensures|ghost)\b(?! use\b)")
 # What the words of clauses mean.
@@ -24,9 +24,10 @@ class Item:
 
     def tail(self):
         """Returns how the names of the function and of its proofs end: with its type, wherever the impl is, or with its module.
-        The type is Fault for `impl Fault`, and FaultFromPlay for `impl From<Play> for Fault`."""
+        The type is Fault for `impl Fault`, FaultFromPlay for `impl From<Play> for Fault`, and RefSliceU64Reader for `impl Reader for &[u64]`."""
         module = [part for part in self.path[len("src/"):-len(".rt")].split("/") if part not in ("lib", "main")]
-        of_trait, owner = re.match(IMPL, self.owner).groups() if self.owner else ("", "")
+        of_trait, slice_of, owner = re.match(IMPL, self.owner).groups() if self.owner else ("", "", "")
+        owner = "RefSlice" + owner.capitalize() if slice_of else owner
         return ([owner + "".join(re.findall(r"\w+", of_trait or ""))] if owner else module) + [self.name]
 
     def has_proofs_in(self, folder):

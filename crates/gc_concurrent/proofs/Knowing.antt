@@ -434,8 +434,8 @@ module _ (t after : Tables) (seen seen' : List ℕ) (space : SpaceWords) (r : Re
 
 -- ---- the walk over the mutator's space
 
-pub can_see : (t : Tables) (found : ℕ) (me me' : Sat) → me.0.theirs.old ≤ t.room → SeesNext (length t.olds) found me me' → CanSee found t
-can_see t found me me' room sees = (sees.header, sees.read, (let n = sees.next.within in let m = sees.fits in omega arith))
+pub can_see : (t : Tables) (found size : ℕ) (me me' : Sat) → me.0.theirs.old ≤ t.room → me.0.theirs.old ≤ size → SeesNext (length t.olds) found me me' → CanSee found size t
+can_see t found size me me' room low sees = (sees.header, sees.read, (let n = sees.next.within in let m = sees.fits in omega arith), (let n = sees.next.within in let m = sees.fits in omega arith))
 
 module _ (t : Tables) (new : List ℕ) (found : ℕ) (me me' : Sat) (x : Theirs) (sees : SeesNext (length t.olds) found me me') (follows : Follows t me.0.seen new) (k : Knows t me.0.seen new x) where
   abbrev n : ℕ

@@ -504,7 +504,7 @@ impl Copier {
         ensures space { self.new.space ≡ self.old.space }
     {
         let cells = &*self.cells;
-        walk(cells, &mut self.seat, &mut self.standing, end);
+        walk(cells, &mut self.seat, &mut self.standing, self.size, end);
     }
 
     /// With both ends at hand: what holds where nothing is left to do.

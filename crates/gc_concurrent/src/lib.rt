@@ -10,6 +10,7 @@ mod commands;
 mod copier;
 mod handshake;
 mod held;
+mod loads;
 mod logging;
 mod machine;
 mod moves;

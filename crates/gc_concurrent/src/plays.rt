@@ -124,6 +124,7 @@ impl Play<Vec<u64>, CellsView> for Flipped {
     ghost then = { tells_flip };
 }
 
+#[derive(Clone, Copy)]
 pub(crate) struct Looked;
 
 impl Play<Vec<u64>, CellsView> for Looked {
@@ -132,6 +133,7 @@ impl Play<Vec<u64>, CellsView> for Looked {
     ghost then = { tells_look };
 }
 
+#[derive(Clone, Copy)]
 pub(crate) struct Headed;
 
 impl Play<Vec<u64>, CellsView> for Headed {
@@ -140,6 +142,7 @@ impl Play<Vec<u64>, CellsView> for Headed {
     ghost then = { tells_header };
 }
 
+#[derive(Clone, Copy)]
 pub(crate) struct Saw;
 
 impl Play<Vec<u64>, CellsView> for Saw {

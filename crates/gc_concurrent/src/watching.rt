@@ -13,15 +13,18 @@ ghost use Rattle.gc_concurrent.specs.Internal.Following.{Follows, WroteEach};
 ghost use Rattle.gc_concurrent.specs.Internal.Knowing.{Compared, Knows, KnowsBefore, PlacedBehind};
 
 use crate::cells::{Cells, CellsEnd};
+use crate::loads::Loads;
 use crate::moves::half;
 use crate::plays::{Headed, Looked, Saw};
 use gc_monitor::Monitor;
-use gc_words::{Addr, field_index};
+use std::marker::PhantomData;
 
 /// The walk over the mutator's space goes on up to this end, by a load for each object.
-pub(crate) fn walk(cells: &Cells, seat: &mut CellsEnd, standing: &mut Monitor, end: u32)
+pub(crate) fn walk(cells: &Cells, seat: &mut CellsEnd, standing: &mut Monitor, size: u32, end: u32)
     requires cells { seat.old.table_id ≡ cells.now.shared.table_id }
-    requires wide { end ≤ cells.now.shared.table_id.words }
+    requires wide { cells.now.shared.table_id.words ≡ size }
+    requires inside { end ≤ size }
+    requires old { seat.old.me.0.theirs.old ≤ size }
     requires sized { cells.now.shared.key.size ≡ cells.now.shared.table_id.words }
     requires copies { seat.old.me.0.copies ≡ true }
     requires along { ∥ ((new : List ℕ) × Follows standing.old seat.old.me.0.seen new) ∥₁ }
@@ -36,12 +39,15 @@ pub(crate) fn walk(cells: &Cells, seat: &mut CellsEnd, standing: &mut Monitor, e
     ensures originals { (r : Replica) → In r seat.old.me.0.theirs.replicas → r.original < end → r.original < length standing.new.olds }
     ensures words { seat.old.me.0.writes ≡ true → end ≤ length seat.old.me.0.mine.space.words → end ≤ length standing.new.olds }
 {
-    while !standing.is_lost() && standing.seen() < end as usize {
-        let word = cells.shared.load::<Saw>(seat, standing.seen());
-        if word == 0 {
+    let words: Loads<Saw> = Loads {
+        cells,
+        size,
+        play: PhantomData,
+    };
+    while standing.seen() < end as usize {
+        if !standing.walk(words, seat) {
             return;
         }
-        standing.saw(word);
     }
 }
 
@@ -72,20 +78,12 @@ pub(crate) fn compare(
     ensures along { (new : List ℕ) → slice_index new at ≡ header → field_place at i < length new → ∥ Follows standing.old seat.old.me.0.seen new ∥₁
         → ∥ Follows standing.new seat.new.me.0.seen (slice_set new (field_place at i) word) ∥₁ }
 {
-    if standing.is_lost() {
-        return;
-    }
-    let Some(original) = standing.original_of(at, i, header) else {
-        standing.lose();
-        return;
+    let words: Loads<Looked> = Loads {
+        cells,
+        size,
+        play: PhantomData,
     };
-    let place = field_index(Addr(original), i);
-    if place >= size as usize {
-        standing.lose();
-        return;
-    }
-    let old = cells.shared.load::<Looked>(seat, place);
-    standing.looked(at, i, header, old, word);
+    standing.look_through(words, seat, at, i, header, word);
 }
 
 /// The replica of the object at `name`, which has this header word, is the next object of the new space. If the walk over the mutator's space has
@@ -101,6 +99,7 @@ pub(crate) fn place(
     requires cells { seat.old.table_id ≡ cells.now.shared.table_id }
     requires wide { cells.now.shared.table_id.words ≡ size }
     requires low { name < size }
+    requires old { seat.old.me.0.theirs.old ≤ size }
     requires sized { cells.now.shared.key.size ≡ cells.now.shared.table_id.words }
     requires copies { seat.old.me.0.copies ≡ true }
     requires along { ∥ ((new : List ℕ) × Follows standing.old seat.old.me.0.seen new) ∥₁ }
@@ -114,9 +113,13 @@ pub(crate) fn place(
         → ∥ Follows standing.old seat.old.me.0.seen new ∥₁
         → ∥ Follows standing.new seat.new.me.0.seen (new ++ more) ∥₁ }
 {
-    walk(cells, seat, standing, name + 1);
-    let original = cells.shared.load::<Headed>(seat, name as usize);
-    standing.placed_by(header, name, original);
+    walk(cells, seat, standing, size, name + 1);
+    let words: Loads<Headed> = Loads {
+        cells,
+        size,
+        play: PhantomData,
+    };
+    standing.place_through(words, seat, header, name);
 }
 
 // The place of the replica of the object at this address, or 0.

@@ -72,18 +72,17 @@ pub record Accepts (t : Tables) (old new : ImageOutline) : Type 0 where
 
 -- ---- words that come one by one
 
--- an object with this header word would fit behind the walk over the old space
-abbrev pub CanSee : ℕ → Tables → Type 0
-CanSee word t = (h : Header) × (read_header word ≡ Some h) × (length t.olds + (h.len + 2) ≤ t.room)
+-- an object with this header word would fit behind the walk over the old space, which has so many places
+abbrev pub CanSee : ℕ → ℕ → Tables → Type 0
+CanSee word count t = (h : Header) × (read_header word ≡ Some h) × (length t.olds + (h.len + 2) ≤ t.room) × (length t.olds + (h.len + 2) ≤ count)
 
--- a replica with this header word would fit behind the walk over the new space, and the object at a was seen and has none
-pub record CanPlaceBy (word a : ℕ) (t : Tables) : Type 0 where
-  pub header : Header
-  pub is : read_header word ≡ Some header
-  pub low : 1 ≤ a
-  pub high : a < largest_space
-  pub start : slice_index_or t.olds a 0 ≡ 1
-  pub room : length t.news + (header.len + 2) ≤ t.room
+-- a replica with this header word would fit behind the walk over the new space
+abbrev pub CanPlace : ℕ → Tables → Type 0
+CanPlace word t = (h : Header) × (read_header word ≡ Some h) × (length t.news + (h.len + 2) ≤ t.room)
+
+-- the object at a was seen, and has no replica yet
+abbrev pub IsFree : ℕ → Tables → Type 0
+IsFree a t = (1 ≤ a) × (slice_index_or t.olds a 0 ≡ 1)
 
 -- if the object at a has a replica, it is the one at b, whose field i was seen
 abbrev pub CanWriteAt : ℕ → ℕ → ℕ → Tables → Type 0

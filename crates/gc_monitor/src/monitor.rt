@@ -1,4 +1,3 @@
-mod loading;
 mod looking;
 
 use crate::code_row::CodeRow;
@@ -6,8 +5,10 @@ use crate::old_row::OldRow;
 use crate::origin_row::OriginRow;
 use crate::origins_tell_pairs;
 use crate::outline::Outline;
+use crate::reader::Reader;
 use crate::walking::{
-    DUE, START, TAKEN, add_codes, claim_in, code_of, is_copy, next_header, next_within,
+    DUE, START, TAKEN, add_codes, claim_in, code_of, header_in, is_copy, link_of, next_within,
+    read_word,
 };
 use crate::watcher::Watcher;
 use gc_graph::NoMemory;
@@ -15,9 +16,6 @@ use gc_words::{Addr, Header, Value, decode_wide, field_index, half_of};
 use std::alloc::Global;
 use std::cmp::max;
 use std::marker::Model;
-
-/// A link modulo this number, which is its low 32 bits, is the place that it claims. The checker does not read the other bits.
-const PLACES: u64 = 1 << 32;
 
 /// A checker that goes along with collections. It has its own tables, and believes nobody, but that each write is told.
 #[derive(Debug, Drop)]
@@ -57,7 +55,7 @@ impl Model for Monitor {
 }
 
 impl Monitor {
-    ghost use Rattle.std.specs.Prelude.{◌≡◌, ◌<◌, ◌≤◌, ◌==◌, ◌%◌, ◌^◌, ◌↔◌, ◌∷◌, ◌++◌, ◌+◌, ◌-◌, Some, [], ℕ, true, false, not, IsTrue, IsFalse, ◌⊎◌, IfOk, IfSome, OnOk, OnErr, MatchOption, length, slice_index, slice_index_or};
+    ghost use Rattle.std.specs.Prelude.{◌≡◌, ◌<◌, ◌≤◌, ◌==◌, ◌%◌, ◌^◌, ◌↔◌, ◌∷◌, ◌++◌, ◌+◌, ◌-◌, Some, [], ℕ, true, false, not, IsTrue, IsFalse, ◌⊎◌, IfOk, IfNone, IfSome, OnOk, OnErr, MatchOption, length, slice_index, slice_index_or};
     ghost use Rattle.gc_graph.specs.Correspond.{paired};
     ghost use Rattle.gc_words.specs.Word.{words_correspond, field_words_correspond};
     ghost use Rattle.gc_words.specs.declared.header.Header.{Header};
@@ -67,13 +65,13 @@ impl Monitor {
     ghost use Rattle.gc_monitor.specs.Watch.{RootsCorrespond};
     ghost use Rattle.gc_monitor.specs.Tables.{RowsAgree};
     ghost use Rattle.gc_monitor.specs.Telling.{IsMark};
-    ghost use Rattle.gc_monitor.specs.Events.{Made, Placed, Wrote, WroteRow, Applied, Freed, HasNoReplica, IsCopy, object_codes, absent_tables, opening_tables, flipped_tables, replica_added, with_due};
+    ghost use Rattle.gc_monitor.specs.Events.{Made, Saw, Stands, Placed, PlacedBy, Wrote, WroteRow, Applied, Freed, HasNoReplica, IsCopy, object_codes, absent_tables, opening_tables, flipped_tables, replica_added, with_due};
     ghost use Rattle.gc_monitor.specs.Internal.Rows.{with_due_row};
     ghost use Rattle.gc_monitor.specs.Runs.{PlacedAll, CanPlaceAll};
     ghost use Rattle.gc_graph.specs.Graph.{Ref};
     ghost use Rattle.gc_words.specs.Word.{read_header, read_value};
     ghost use Rattle.gc_monitor.specs.Tables.{Tables};
-    ghost use Rattle.gc_monitor.specs.Claims.{Accepts, CanApply, CanMake, CanPlaceNext, CanWrite, CanWriteRow, HasSeenBoth, IsLinked, OwesNone};
+    ghost use Rattle.gc_monitor.specs.Claims.{Accepts, CanApply, CanMake, CanSee, CanPlace, CanPlaceNext, CanWrite, CanWriteAt, CanWriteRow, HasSeenBoth, IsFree, IsLinked, OwesNone};
 
     /// Returns a checker for spaces of up to `size` words, at least 1.
     pub fn new(alloc: Global, size: u32) -> Result<Monitor, NoMemory>
@@ -139,50 +137,76 @@ impl Monitor {
         ensures made { IsFalse self.new.lost → Made old.now self.old self.new }
         ensures stays { IsFalse self.old.lost → CanMake old.now self.old → IsFalse self.new.lost }
     {
-        if self.lost {
-            return;
-        }
-        let at = self.olds.len();
-        if at >= old.len() {
-            return;
-        }
-        let Some(header) = next_within(old, at) else {
-            self.lost = true;
-            return;
-        };
-        self.see(header.len(), at + (usize::from(header.len()) + 2));
+        let _ = self.walk(old, &mut ());
     }
 
-    // The walk over the old space goes on by an object with so many fields, which ends here, if there is room for its codes.
+    /// The walk over the old space goes on by the object whose header word is read next, if there is one. Returns whether it went on.
     #[inline(always)]
-    fn see(&mut self, len: u16, end: usize)
+    pub fn walk<R: Reader>(&mut self, old: R, seat: &mut R::Seat) -> bool
+        requires can { length self.old.olds < R.count old → R.can_read old seat.old (length self.old.olds) }
+        ensures lost { IsTrue self.old.lost → IsTrue self.new.lost }
+        ensures found { IsTrue result → IsFalse self.new.lost }
+        ensures went { IsTrue result → (word : ℕ) × R.reads old seat.old (length self.old.olds) word seat.new × Saw word self.old self.new }
+        ensures within { IsTrue result → length self.new.olds ≤ R.count old }
+        ensures stands { IsFalse result → IsFalse self.new.lost → (self.new ≡ self.old) × Stands R.count R.ends R.reads old seat.old (length self.old.olds) seat.new }
+        ensures stays { IsFalse self.old.lost → ((word : ℕ) → length self.old.olds < R.count old → R.reads old seat.old (length self.old.olds) word seat.new → (R.ends old word → ⊥)
+            → CanSee word (R.count old) self.old)
+            → IsFalse self.new.lost }
+    {
+        if self.lost {
+            return false;
+        }
+        let at = self.olds.len();
+        let end = old.len();
+        if at >= end {
+            return false;
+        }
+        let word = old.word(seat, at);
+        if old.is_end(word) {
+            return false;
+        }
+        let Some(header) = header_in(word, end - at) else {
+            self.lost = true;
+            return false;
+        };
+        self.see(header.len(), at + (usize::from(header.len()) + 2))
+    }
+
+    // The walk over the old space goes on by an object with so many fields, which ends here, if there is room for its codes. Returns whether there is.
+    #[inline(always)]
+    fn see(&mut self, len: u16, end: usize) -> bool
         requires found { IsFalse self.old.lost }
         requires end { end ≡ length self.old.olds + (len + 2) }
-        ensures made { IsFalse self.new.lost → (end ≤ 4294967295) × (self.new ≡ record self.old { olds = self.old.olds ++ object_codes len 0 }) }
-        ensures stays { end ≤ self.old.room → IsFalse self.new.lost }
+        ensures found { IsTrue result → IsFalse self.new.lost }
+        ensures lost { IsFalse result → IsTrue self.new.lost }
+        ensures made { IsTrue result → (end ≤ 4294967295) × (self.new ≡ record self.old { olds = self.old.olds ++ object_codes len 0 }) }
+        ensures stays { end ≤ self.old.room → IsTrue result }
     {
         if !self.olds.covers(end) {
-            self.made_behind(len, end);
-            return;
+            return self.made_behind(len, end);
         }
         let fields = usize::from(len);
         self.olds.add(fields + 1);
+        true
     }
 
     // The same where the codes may need further words.
     #[cold]
     #[inline(never)]
-    fn made_behind(&mut self, len: u16, end: usize)
+    fn made_behind(&mut self, len: u16, end: usize) -> bool
         requires found { IsFalse self.old.lost }
         requires end { end ≡ length self.old.olds + (len + 2) }
-        ensures made { IsFalse self.new.lost → (end ≤ 4294967295) × (self.new ≡ record self.old { olds = self.old.olds ++ object_codes len 0 }) }
-        ensures stays { end ≤ self.old.room → IsFalse self.new.lost }
+        ensures found { IsTrue result → IsFalse self.new.lost }
+        ensures lost { IsFalse result → IsTrue self.new.lost }
+        ensures made { IsTrue result → (end ≤ 4294967295) × (self.new ≡ record self.old { olds = self.old.olds ++ object_codes len 0 }) }
+        ensures stays { end ≤ self.old.room → IsTrue result }
     {
         if end > self.room as usize {
             self.lost = true;
-            return;
+            return false;
         }
         self.olds.add(usize::from(len) + 1);
+        true
     }
 
     /// The walk over the new space goes on by one object, if there is one: the replica of the object that its link claims.
@@ -231,20 +255,86 @@ impl Monitor {
         ensures stays { CanPlaceNext old.now new.now self.old → IsFalse self.new.lost }
     {
         let at = self.news.len();
-        let Some(header) = next_header(new, at, self.room) else {
+        let Some(header) = self.with_room(next_within(new, at)) else {
             self.lost = true;
             return false;
         };
-        let Some(original) = claim_in(old, new, &self.olds, at) else {
+        let Some(original) = claim_in(new[at + 1]) else {
             self.lost = true;
             return false;
         };
+        if !self.takes(old, &mut (), new[at], original) {
+            self.lost = true;
+            return false;
+        }
         if header.is_raw() {
             let _ = self.add_raw(old, new, header, original, at);
             return true;
         }
         self.add_replica(header, original, true);
         true
+    }
+
+    /// The walk over the new space goes on by a replica with this header word, which is said to be that of the object at `claim`, whose header word
+    /// is read. The fields of the replica are due, also if it is raw.
+    #[inline(always)]
+    pub fn place_through<R: Reader>(&mut self, old: R, seat: &mut R::Seat, word: u64, claim: u32)
+        requires can { claim < R.count old → R.can_read old seat.old claim }
+        ensures lost { IsTrue self.old.lost → IsTrue self.new.lost }
+        ensures placed { IsFalse self.new.lost → PlacedBy word claim self.old self.new }
+        ensures read { IsFalse self.new.lost → R.reads old seat.old claim word seat.new }
+        ensures stays { IsFalse self.old.lost → CanPlace word self.old → claim < R.count old
+            → ((found : ℕ) → R.reads old seat.old claim found seat.new → (found ≡ word) × IsFree claim self.old) → IsFalse self.new.lost }
+    {
+        if self.lost {
+            return;
+        }
+        let Some(header) = self.with_room(read_word(word)) else {
+            self.lost = true;
+            return;
+        };
+        if !self.takes(old, seat, word, claim) {
+            self.lost = true;
+            return;
+        }
+        self.add_replica(header, claim, true);
+    }
+
+    // The same header, if there is room for the codes of a replica that has it.
+    #[inline(always)]
+    fn with_room(&self, header: Option<Header>) -> Option<Header>
+        requires found { IsFalse self.now.lost }
+        ensures some { IfSome result (λ h. (header ≡ Some h) × (length self.now.news + (h.len + 2) ≤ self.now.room)) }
+        ensures none { IfNone result ((h : Header) → header ≡ Some h → length self.now.news + (h.len + 2) ≤ self.now.room → ⊥) }
+    {
+        let header = header?;
+        if self.news.len() + (usize::from(header.len()) + 2) > self.room as usize {
+            return None;
+        }
+        Some(header)
+    }
+
+    // Whether the object at `claim` has this header word, as it is read, was seen, and has no replica yet.
+    #[inline(always)]
+    fn takes<R: Reader>(&self, old: R, seat: &mut R::Seat, word: u64, claim: u32) -> bool
+        requires can { claim < R.count old → R.can_read old seat.old claim }
+        ensures free { IsTrue result → IsFree claim self.now }
+        ensures within { IsTrue result → claim < R.count old }
+        ensures read { IsTrue result → R.reads old seat.old claim word seat.new }
+        ensures none { IsFalse result → claim < R.count old → ((found : ℕ) → R.reads old seat.old claim found seat.new
+            → (found ≡ word) × IsFree claim self.now) → ⊥ }
+    {
+        let from = claim as usize;
+        if from >= old.len() {
+            return false;
+        }
+        if old.word(seat, from) != word {
+            return false;
+        }
+        if from == 0 || from >= self.olds.len() {
+            return false;
+        }
+        self.olds.get(from) == START
     }
 
     // The tables have a raw replica more, which starts at `at`. Returns whether it is a copy of its original, whose fields are not due.
@@ -327,10 +417,40 @@ impl Monitor {
         if !self.may_be_taken(a) {
             return;
         }
-        match self.replica(old, a) {
-            Some(at) => self.set_written(field_index(Addr(at), i)),
+        match link_of(old, a) {
+            Some(claim) => self.write(a, i, claim),
             None => self.lose_taken(a),
         }
+    }
+
+    /// The same where the caller says where the object's replica is, if it has one.
+    pub fn wrote(&mut self, a: u32, i: u16, claim: u32)
+        ensures lost { IsTrue self.old.lost → IsTrue self.new.lost }
+        ensures wrote { IsFalse self.new.lost → Wrote a i self.old self.new }
+        ensures stays { IsFalse self.old.lost → CanWriteAt a i claim self.old → IsFalse self.new.lost }
+    {
+        if self.lost {
+            return;
+        }
+        if !self.may_be_taken(a) {
+            return;
+        }
+        self.write(a, i, claim);
+    }
+
+    // Field `i` of the object at `a` is due in its replica, if it has one, which is said to be at `claim`.
+    #[inline(always)]
+    fn write(&mut self, a: u32, i: u16, claim: u32)
+        requires found { IsFalse self.old.lost }
+        ensures wrote { IsFalse self.new.lost → Wrote a i self.old self.new }
+        ensures stays { CanWriteAt a i claim self.old → IsFalse self.new.lost }
+    {
+        let _ = &self.olds;
+        if !self.is_replica(a, claim) {
+            self.lose_taken(a);
+            return;
+        }
+        self.set_written(field_index(Addr(claim), i));
     }
 
     /// So many fields of the object at `a`, from field `first` on, were written: they are due in its replica, if it has one. The replica
@@ -424,11 +544,7 @@ impl Monitor {
         ensures claim { MatchOption result ((b : ℕ) → IsLinked old.now self.now a b → ⊥) (λ b. (1 ≤ a) × (slice_index_or self.now.origins b 0 ≡ a)) }
         ensures link { IfSome result (λ b. slice_index old.now (link_place a) % 2 ^ 32 ≡ b) }
     {
-        let link = a as usize + 1;
-        if link >= old.len() {
-            return None;
-        }
-        let at = (old[link] % PLACES) as u32;
+        let at = link_of(old, a)?;
         if !self.is_replica(a, at) {
             return None;
         }
@@ -437,10 +553,17 @@ impl Monitor {
 
     // Whether the replica at `at` is that of the object at `a`.
     #[inline(always)]
-    pub(super) fn is_replica(&self, a: u32, at: u32) -> bool
+    fn is_replica(&self, a: u32, at: u32) -> bool
         ensures { IsTrue result ↔ (1 ≤ a) × (slice_index_or self.now.origins at 0 ≡ a) }
     {
         a != 0 && self.origin_at(at) == a
+    }
+
+    /// Returns the number of words of the old space over which the walk has come.
+    pub fn seen(&self) -> usize
+        ensures { result ≡ length self.now.olds }
+    {
+        self.olds.len()
     }
 
     /// Something is not as it was told: no flip passes from now on.

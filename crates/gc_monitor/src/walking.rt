@@ -1,6 +1,6 @@
 //! The walks over both spaces: the next object, what a replica's link claims, and the codes of an object's places.
 
-ghost use Rattle.std.specs.Prelude.{◌≡◌, ◌↔◌, ◌≤◌, ◌<◌, ◌+◌, ◌++◌, ℕ, IsTrue, MatchOption, Some, length, slice_index, slice_index_or};
+ghost use Rattle.std.specs.Prelude.{◌≡◌, ◌↔◌, ◌≤◌, ◌<◌, ◌+◌, ◌++◌, ◌%◌, ◌^◌, ℕ, IsTrue, MatchOption, Some, length, slice_index};
 ghost use Rattle.gc_words.specs.Layout.{fields_place, link_place};
 ghost use Rattle.gc_words.specs.Word.{read_header};
 ghost use Rattle.gc_words.specs.declared.header.Header.{Header};
@@ -8,7 +8,6 @@ ghost use Rattle.gc_monitor.specs.Watch.{IsNext};
 ghost use Rattle.gc_monitor.specs.Events.{IsCopy, object_codes, code_of};
 
 use crate::code_row::CodeRow;
-use crate::old_row::OldRow;
 use gc_words::Header;
 
 /// An object starts here. In the old table: no replica of it was seen.
@@ -17,6 +16,9 @@ pub(crate) const START: u8 = 1;
 pub(crate) const TAKEN: u8 = 2;
 /// In the new table: a field that has yet to be compared.
 pub(crate) const DUE: u8 = 3;
+
+/// A link modulo this number, which is its low 32 bits, is the place that it claims. The checker does not read the other bits.
+const PLACES: u64 = 1 << 32;
 
 /// Returns the header of the object that starts at this place, if one does.
 #[inline(always)]
@@ -49,60 +51,45 @@ pub(crate) fn next_within(words: &[u64], at: usize) -> Option<Header>
     ensures { MatchOption result ((h : Header) → IsNext at words.now h → ⊥)
         (λ h. (read_header (slice_index words.now at) ≡ Some h) × (at + (h.len + 2) ≤ length words.now)) }
 {
-    let header = read_word(words[at])?;
-    if usize::from(header.len()) + 2 > words.len() - at {
+    header_in(words[at], words.len() - at)
+}
+
+/// Returns the header that is this word, if so many words are enough for its object.
+#[inline(always)]
+pub(crate) fn header_in(word: u64, left: usize) -> Option<Header>
+    ensures { MatchOption result ((h : Header) → read_header word ≡ Some h → h.len + 2 ≤ left → ⊥) (λ h. (read_header word ≡ Some h) × (h.len + 2 ≤ left)) }
+{
+    let header = read_word(word)?;
+    if usize::from(header.len()) + 2 > left {
         return None;
     }
     Some(header)
 }
 
-/// Returns the same header, if there is also room for its codes.
+/// Returns the address that the word of a replica's link claims, if it can be one.
 #[inline(always)]
-pub(crate) fn next_header(words: &[u64], at: usize, room: u32) -> Option<Header>
-    requires at { at < length words.now }
-    requires room { room ≤ 4294967295 }
-    ensures { MatchOption result ((h : Header) → IsNext at words.now h → at + (h.len + 2) ≤ room → ⊥)
-        (λ h. IsNext at words.now h × (at + (h.len + 2) ≤ room)) }
+pub(crate) fn claim_in(link: u64) -> Option<u32>
+    ensures { MatchOption result (1 ≤ link → link < 4294967295 → ⊥) (λ a. (link ≡ a) × (1 ≤ a)) }
 {
-    let header = next_within(words, at)?;
-    if at + (usize::from(header.len()) + 2) > room as usize {
+    if link < 1 {
         return None;
     }
-    Some(header)
+    if link >= u64::from(u32::MAX) {
+        return None;
+    }
+    Some(link as u32)
 }
 
-/// Returns the original that the link of the object at `at` claims, if the claim can be true: an object that was seen starts there, has no
-/// replica and has an equal header word.
+/// Returns the place that the link of the object at `a` claims, which its low 32 bits tell.
 #[inline(always)]
-pub(crate) fn claim_in(old: &[u64], new: &[u64], olds: &OldRow, at: usize) -> Option<u32>
-    requires { link_place at < length new.now }
-    ensures { MatchOption result ((a : ℕ) → slice_index new.now (link_place at) ≡ a → 1 ≤ a → a < 4294967295 → a < length old.now
-        → slice_index_or olds.now.codes a 0 ≡ 1 → slice_index old.now a ≡ slice_index new.now at → ⊥)
-        (λ a. (slice_index new.now (link_place at) ≡ a) × (1 ≤ a) × (a < length old.now) × (a < length olds.now.codes)
-        × (slice_index_or olds.now.codes a 0 ≡ 1) × (slice_index old.now a ≡ slice_index new.now at)) }
+pub(crate) fn link_of(old: &[u64], a: u32) -> Option<u32>
+    ensures { MatchOption result (link_place a < length old.now → ⊥) (λ b. (link_place a < length old.now) × (slice_index old.now (link_place a) % 2 ^ 32 ≡ b)) }
 {
-    let claim = new[at + 1];
-    if claim < 1 {
+    let link = a as usize + 1;
+    if link >= old.len() {
         return None;
     }
-    if claim >= u64::from(u32::MAX) {
-        return None;
-    }
-    let original = claim as u32;
-    let from = original as usize;
-    if from >= olds.len() {
-        return None;
-    }
-    if olds.get(from) != START {
-        return None;
-    }
-    if from >= old.len() {
-        return None;
-    }
-    if old[from] != new[at] {
-        return None;
-    }
-    Some(original)
+    Some((old[link] % PLACES) as u32)
 }
 
 /// Returns whether the object at `at` is raw and its field words are those of its original.

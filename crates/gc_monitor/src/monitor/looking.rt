@@ -1,5 +1,6 @@
 //! Fields of replicas, compared with those of their originals as they are now.
 use super::Monitor;
+use crate::reader::Reader;
 use crate::walking::{header_at, read_word};
 use gc_words::{Addr, Header, field_index};
 
@@ -12,17 +13,17 @@ pub(super) struct Field {
 }
 
 impl Monitor {
-    ghost use Rattle.std.specs.Prelude.{◌≡◌, ◌<◌, ◌≤◌, ◌+◌, ◌-◌, Some, ℕ, false, IsTrue, IsFalse, IfNone, IfSome, MatchOption, length, slice_index, slice_index_or};
+    ghost use Rattle.std.specs.Prelude.{◌≡◌, ◌<◌, ◌≤◌, ◌+◌, ◌-◌, Some, ℕ, List, false, not, IsTrue, IsFalse, IfNone, IfSome, MatchOption, length, slice_index, slice_index_or};
     ghost use Rattle.gc_words.specs.Word.{field_words_correspond, read_header};
     ghost use Rattle.gc_words.specs.declared.header.Header.{Header};
     ghost use Rattle.gc_words.specs.Layout.{field_place};
     ghost use Rattle.gc_monitor.specs.Origins.{pairs_in};
-    ghost use Rattle.gc_monitor.specs.Events.{Looked, IsFieldOf};
+    ghost use Rattle.gc_monitor.specs.Events.{Looked, IsFieldOf, with_due};
     ghost use Rattle.gc_monitor.specs.Internal.Rows.{with_due_row};
     ghost use Rattle.gc_monitor.specs.Runs.{LookedAll, CanLookAll};
     ghost use Rattle.gc_monitor.specs.Internal.Runs.{LooksTo};
     ghost use Rattle.gc_monitor.specs.Tables.{Tables};
-    ghost use Rattle.gc_monitor.specs.Claims.{CanLook, IsPassedField};
+    ghost use Rattle.gc_monitor.specs.Claims.{CanLook, IsPassedField, ShowsField};
 
     /// Compares field `i` of the replica at `at` as it is now.
     #[inline(always)]
@@ -34,31 +35,61 @@ impl Monitor {
         if self.lost {
             return;
         }
-        match self.compared(old, new, at, i) {
-            None => self.lose(),
-            Some(true) => self.set_due(field_index(Addr(at), i), false),
-            Some(false) => self.set_due(field_index(Addr(at), i), true),
-        }
-    }
-
-    // Whether field `i` of the replica at `at` stands for its original's, if there are such fields.
-    #[inline(always)]
-    fn compared(&self, old: &[u64], new: &[u64], at: u32, i: u16) -> Option<bool>
-        ensures { MatchOption result (CanLook old.now new.now at i self.now → ⊥) (λ alike. (h : Header) × (a : ℕ) × IsFieldOf new.now self.now h a at i
-            × (field_place a i < length old.now) × (field_place at i < length new.now)
-            × (alike ≡ field_words_correspond h (pairs_in self.now.origins) (slice_index old.now (field_place a i)) (slice_index new.now (field_place at i)))) }
-    {
         // Where the new space has the place of the field, it has the replica's header too.
         let place = field_index(Addr(at), i);
         if place >= new.len() {
-            return None;
+            self.lost = true;
+            return;
         }
-        let field = self.field_of(new[at as usize], at, i)?;
+        self.look_through(old, &mut (), at, i, new[at as usize], new[place]);
+    }
+
+    /// Compares field `i` of the replica at `at`, which has this header word and this word in the field, with its original's as it is read.
+    #[inline(always)]
+    pub fn look_through<R: Reader>(
+        &mut self,
+        old: R,
+        seat: &mut R::Seat,
+        at: u32,
+        i: u16,
+        word: u64,
+        new: u64,
+    )
+        requires can { IsPassedField word self.old at i → R.can_read old seat.old (field_place (slice_index_or self.old.origins at 0) i) }
+        ensures lost { IsTrue self.old.lost → IsTrue self.new.lost }
+        ensures within { IsFalse self.new.lost → field_place (slice_index_or self.old.origins at 0) i < R.count old }
+        ensures looked { IsFalse self.new.lost → (v : ℕ) × R.reads old seat.old (field_place (slice_index_or self.old.origins at 0) i) v seat.new
+            × ((olds news : List ℕ) → ShowsField olds news self.old at i word v new → Looked olds news at i self.old self.new) }
+        ensures stays { IsFalse self.old.lost → IsPassedField word self.old at i → field_place (slice_index_or self.old.origins at 0) i < R.count old → IsFalse self.new.lost }
+    {
+        if self.lost {
+            return;
+        }
+        let Some(field) = self.field_of(word, at, i) else {
+            self.lost = true;
+            return;
+        };
         let from = field_index(Addr(field.original), i);
         if from >= old.len() {
-            return None;
+            self.lost = true;
+            return;
         }
-        Some(self.is_alike(field.header, old[from], new[place]))
+        let other = old.word(seat, from);
+        self.compare(field, other, new);
+    }
+
+    // The field is due exactly if these words, its original's and its own, do not stand for each other.
+    #[inline(always)]
+    fn compare(&mut self, field: Field, old: u64, new: u64)
+        requires found { IsFalse self.old.lost }
+        requires within { field.place < length self.old.news }
+        ensures { self.new ≡ with_due self.old field.place (not (field_words_correspond field.header (pairs_in self.old.origins) old new)) }
+    {
+        if self.is_alike(field.header, old, new) {
+            self.set_due(field.place, false);
+        } else {
+            self.set_due(field.place, true);
+        }
     }
 
     // Field `i` of the replica at `at`, whose header word this is, if there is such a field.

@@ -143,6 +143,14 @@ returns-then-not-has_room-clause-room c _ =
 pub place-requires-clause-low : goal.place-requires-clause-low
 place-requires-clause-low c = let l = low c.args.self.now c.requires.wanted in let o = c.args.self.now.sized.0 in omega arith
 
+pub place-requires-clause-old : goal.place-requires-clause-old
+place-requires-clause-old c =
+    let l = (goal.at.place-requires-clause-old c).After-load-word in
+    let fits : object_words c.of_word-header.result.len ≤ free_in (a l).space = (let f = c.has_room.ensures.0 c.if-not-has_room.false in let n = c.len.ensures in omega arith) in
+    let is = theirs_is (a l).seat.me c.load-word.new.seat.me (placed_one (a l).wanted (told l).0 (t l)) (placed l c.of_word-header.result c.of_word-header.ensures fits) in
+    let e : c.load-word.new.seat.me.0.theirs.old ≡ (t l).old = ap (λ (y : Theirs). y.old) is in
+    let s = (a l).sized.0 in omega arith
+
 pub place-requires-clause-copies : goal.place-requires-clause-copies
 place-requires-clause-copies c = copies (goal.at.place-requires-clause-copies c).After-load-word
 

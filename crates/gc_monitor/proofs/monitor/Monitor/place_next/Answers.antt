@@ -1,6 +1,8 @@
 -- The tables gain the pair that the link claims. If the copy of a raw object was found equal, none of its fields is due.
-use Rattle.std.proofs.Common.{◌≡◌, ◌<◌, true, false, length, not, ap, sym, ◌∙◌, subst}
-use Rattle.std.specs.Prelude.{slice_index}
+use Rattle.std.proofs.Common.{◌≡◌, ◌<◌, ◌≤◌, ◌+◌, Some, true, false, length, not, ap, sym, ◌∙◌, subst, arith}
+use Rattle.std.specs.Prelude.{MatchOption, slice_index, slice_index_or}
+use Rattle.gc_words.specs.declared.header.Header.{Header}
+use Rattle.gc_words.specs.Word.{read_header}
 use Rattle.gc_words.specs.Layout.{link_place}
 use Rattle.gc_monitor.specs.Watch.{IsNext}
 use Rattle.gc_monitor.specs.Tables.{Tables}
@@ -16,14 +18,23 @@ claim c =
     let h = c.in-Some.header in
     let a = c.in-Some-claim_in.original in
     let at : c.len-at.result ≡ length c.self.inside.news.codes = c.len-at.ensures in
+    let takes = c.takes.ensures in
+    let yes = c.if-not-takes.false in
+    let view : length c.self.inside.news.codes ≡ length c.args.self.now.news = ap (λ (t : Tables). length t.news) c.self.view_is in
+    let roomy : c.self.inside.room ≡ c.args.self.now.room = ap (λ (t : Tables). t.room) c.self.view_is in
+    let next = subst (λ o. MatchOption o ((g : Header) → IsNext c.len-at.result c.args.new.now g → ⊥) (λ (g : Header). (read_header (slice_index c.args.new.now c.len-at.result) ≡ Some g) × (c.len-at.result + (g.len + 2) ≤ length c.args.new.now))) c.in-Some.ensures.some.0 c.next_within.ensures in
     record {
-      next = subst (λ n. IsNext n c.args.new.now h) at c.in-Some.ensures.0;
+      next = record {
+        header = subst (λ n. read_header (slice_index c.args.new.now n) ≡ Some h) at next.0;
+        within = subst (λ n. n + (h.len + 2) ≤ length c.args.new.now) at next.1;
+        bound = omega (arith, view, roomy, c.in-Some.ensures.some.1, c.self.invariant.1);
+      };
       rows = (agree_of _ c.self.invariant.5 (ap (λ (t : Tables). t.lost) c.self.view_is ∙ c.requires.found)).rows;
-      link = subst (λ n. slice_index c.args.new.now (link_place n) ≡ a) at c.in-Some-claim_in.ensures.0;
-      low = c.in-Some-claim_in.ensures.1;
-      within = c.in-Some-claim_in.ensures.2;
-      start = c.in-Some-claim_in.ensures.4;
-      header = subst (λ n. slice_index c.args.old.now a ≡ slice_index c.args.new.now n) at c.in-Some-claim_in.ensures.5;
+      link = subst (λ n. slice_index c.args.new.now (link_place n) ≡ a) at (c.in-Some-claim_in.ensures.0);
+      low = (takes.free yes).0;
+      within = takes.within yes;
+      start = subst (λ (t : Tables). slice_index_or t.olds a 0 ≡ 1) (sym c.self.view_is) (takes.free yes).1;
+      header = subst (λ n. slice_index c.args.old.now a ≡ slice_index c.args.new.now n) at (takes.read yes);
     }
 
 -- the new space goes on behind the walk
