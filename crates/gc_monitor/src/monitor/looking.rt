@@ -277,7 +277,7 @@ impl Monitor {
             → IsTrue (field_words_correspond header (pairs_in self.now.origins) (slice_index old.now (from + k)) (slice_index new.now (place + k))) }
     {
         for k in 0..count {
-            if !self.is_alike(header, old[from + k], new[place + k]) {
+            if !self.is_alike(header, old.word(&mut (), from + k), new[place + k]) {
                 return false;
             }
         }
