@@ -12,5 +12,5 @@ loop-k-preserved c = λ j less. elim (cases_lt j c.loop-k.k) [
   | inr late ↦ (let last : c.loop-k.k ≡ j = omega (arith, late, less) in
       subst (λ n. IsTrue (field_words_correspond c.args.header (pairs_in c.args.self.now.origins) (slice_index c.args.old.now (c.args.from + n)) (slice_index c.args.new.now (c.args.place + n)))) last
       (subst (λ v. IsTrue (field_words_correspond c.args.header (pairs_in c.args.self.now.origins) v (slice_index c.args.new.now (c.args.place + c.loop-k.k)))) (sym c.word.ensures)
-        (sym c.is_alike.ensures ∙ c.if-not-is_alike.false)))
+      (sym c.is_alike.ensures ∙ c.if-not-is_alike.false)))
 ]
