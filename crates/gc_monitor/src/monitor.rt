@@ -263,7 +263,7 @@ impl Monitor {
             self.lost = true;
             return false;
         };
-        if !self.takes(old, &mut (), new[at], original) {
+        if original as usize >= old.len() || !self.takes(old, &mut (), new[at], original) {
             self.lost = true;
             return false;
         }
@@ -279,11 +279,12 @@ impl Monitor {
     /// is read. The fields of the replica are due, also if it is raw.
     #[inline(always)]
     pub fn place_through<R: Reader>(&mut self, old: R, seat: &mut R::Seat, word: u64, claim: u32)
-        requires can { claim < R.count old → R.can_read old seat.old claim }
+        requires within { claim < R.count old }
+        requires can { R.can_read old seat.old claim }
         ensures lost { IsTrue self.old.lost → IsTrue self.new.lost }
         ensures placed { IsFalse self.new.lost → PlacedBy word claim self.old self.new }
         ensures read { IsFalse self.new.lost → R.reads old seat.old claim word seat.new }
-        ensures stays { IsFalse self.old.lost → CanPlace word self.old → claim < R.count old
+        ensures stays { IsFalse self.old.lost → CanPlace word self.old
             → ((found : ℕ) → R.reads old seat.old claim found seat.new → (found ≡ word) × IsFree claim self.old) → IsFalse self.new.lost }
     {
         if self.lost {
@@ -317,17 +318,14 @@ impl Monitor {
     // Whether the object at `claim` has this header word, as it is read, was seen, and has no replica yet.
     #[inline(always)]
     fn takes<R: Reader>(&self, old: R, seat: &mut R::Seat, word: u64, claim: u32) -> bool
-        requires can { claim < R.count old → R.can_read old seat.old claim }
+        requires within { claim < R.count old }
+        requires can { R.can_read old seat.old claim }
         ensures free { IsTrue result → IsFree claim self.now }
-        ensures within { IsTrue result → claim < R.count old }
         ensures read { IsTrue result → R.reads old seat.old claim word seat.new }
-        ensures none { IsFalse result → claim < R.count old → ((found : ℕ) → R.reads old seat.old claim found seat.new
+        ensures none { IsFalse result → ((found : ℕ) → R.reads old seat.old claim found seat.new
             → (found ≡ word) × IsFree claim self.now) → ⊥ }
     {
         let from = claim as usize;
-        if from >= old.len() {
-            return false;
-        }
         if old.word(seat, from) != word {
             return false;
         }
