@@ -65,13 +65,13 @@ impl Monitor {
     ghost use Rattle.gc_monitor.specs.Watch.{RootsCorrespond};
     ghost use Rattle.gc_monitor.specs.Tables.{RowsAgree};
     ghost use Rattle.gc_monitor.specs.Telling.{IsMark};
-    ghost use Rattle.gc_monitor.specs.Events.{Made, Saw, Stands, Placed, PlacedBy, Wrote, WroteRow, Applied, Freed, HasNoReplica, IsCopy, object_codes, absent_tables, opening_tables, flipped_tables, replica_added, with_due};
+    ghost use Rattle.gc_monitor.specs.Events.{Made, Saw, StandsThere, Placed, PlacedBy, Wrote, WroteRow, Applied, Freed, HasNoReplica, IsCopy, object_codes, absent_tables, opening_tables, flipped_tables, replica_added, with_due};
     ghost use Rattle.gc_monitor.specs.Internal.Rows.{with_due_row};
     ghost use Rattle.gc_monitor.specs.Runs.{PlacedAll, CanPlaceAll};
     ghost use Rattle.gc_graph.specs.Graph.{Ref};
     ghost use Rattle.gc_words.specs.Word.{read_header, read_value};
     ghost use Rattle.gc_monitor.specs.Tables.{Tables};
-    ghost use Rattle.gc_monitor.specs.Claims.{Accepts, CanApply, CanMake, CanSee, CanPlace, CanPlaceNext, CanWrite, CanWriteAt, CanWriteRow, HasSeenBoth, IsFree, IsLinked, OwesNone};
+    ghost use Rattle.gc_monitor.specs.Claims.{Accepts, CanApply, CanMake, CanSee, FitsBehind, CanPlaceNext, CanWrite, CanWriteAt, CanWriteRow, HasSeenBoth, IsUntaken, IsLinked, OwesNone};
 
     /// Returns a checker for spaces of up to `size` words, at least 1.
     pub fn new(alloc: Global, size: u32) -> Result<Monitor, NoMemory>
@@ -148,7 +148,7 @@ impl Monitor {
         ensures found { IsTrue result → IsFalse self.new.lost }
         ensures went { IsTrue result → (word : ℕ) × R.reads old seat.old (length self.old.olds) word seat.new × Saw word self.old self.new }
         ensures within { IsTrue result → length self.new.olds ≤ R.count old }
-        ensures stands { IsFalse result → IsFalse self.new.lost → (self.new ≡ self.old) × Stands R.count R.ends R.reads old seat.old (length self.old.olds) seat.new }
+        ensures stands { IsFalse result → IsFalse self.new.lost → (self.new ≡ self.old) × StandsThere R.count R.ends R.reads old seat.old (length self.old.olds) seat.new }
         ensures stays { IsFalse self.old.lost → ((word : ℕ) → length self.old.olds < R.count old → R.reads old seat.old (length self.old.olds) word seat.new → (R.ends old word → ⊥)
             → CanSee word (R.count old) self.old)
             → IsFalse self.new.lost }
@@ -284,8 +284,8 @@ impl Monitor {
         ensures lost { IsTrue self.old.lost → IsTrue self.new.lost }
         ensures placed { IsFalse self.new.lost → PlacedBy word claim self.old self.new }
         ensures read { IsFalse self.new.lost → R.reads old seat.old claim word seat.new }
-        ensures stays { IsFalse self.old.lost → CanPlace word self.old
-            → ((found : ℕ) → R.reads old seat.old claim found seat.new → (found ≡ word) × IsFree claim self.old) → IsFalse self.new.lost }
+        ensures stays { IsFalse self.old.lost → FitsBehind word self.old
+            → ((found : ℕ) → R.reads old seat.old claim found seat.new → (found ≡ word) × IsUntaken claim self.old) → IsFalse self.new.lost }
     {
         if self.lost {
             return;
@@ -320,10 +320,10 @@ impl Monitor {
     fn takes<R: Reader>(&self, old: R, seat: &mut R::Seat, word: u64, claim: u32) -> bool
         requires within { claim < R.count old }
         requires can { R.can_read old seat.old claim }
-        ensures free { IsTrue result → IsFree claim self.now }
+        ensures free { IsTrue result → IsUntaken claim self.now }
         ensures read { IsTrue result → R.reads old seat.old claim word seat.new }
         ensures none { IsFalse result → ((found : ℕ) → R.reads old seat.old claim found seat.new
-            → (found ≡ word) × IsFree claim self.now) → ⊥ }
+            → (found ≡ word) × IsUntaken claim self.now) → ⊥ }
     {
         let from = claim as usize;
         if old.word(seat, from) != word {
