@@ -23,7 +23,7 @@ use Rattle.gc_monitor.specs.Tables.{Tables}
 use Rattle.gc_monitor.specs.Origins.{pairs_in}
 use Rattle.gc_monitor.specs.Telling.{IsMark}
 use Rattle.gc_monitor.specs.Events.{PlacedBy, object_codes, replica_added}
-use Rattle.gc_monitor.specs.Claims.{FitsReplica, IsUncopied}
+use Rattle.gc_monitor.specs.Claims.{FitsBehind, IsUntaken}
 use Rattle.gc_monitor.proofs.Public.{all_of, placed as pairs_placed, within_row}
 use Rattle.gc_concurrent.specs.Ends.{Theirs, its}
 use Rattle.gc_concurrent.specs.Internal.Rule.{IsOriginal, Loose, blank_replica, entries_of_fields, placed_one, to_fill}
@@ -237,12 +237,12 @@ module _ (t after : Tables) (seen : List ℕ) (space : SpaceWords) (h : Header) 
 -- ---- the checker can place it
 
 -- the new space and the tables have room for it
-pub fits_behind : (t0 t : Tables) (seen0 seen new : List ℕ) (before now : Theirs) (name word : ℕ) → (kb : KnowsBefore t0 seen0 new before now name word) → Follows t seen new → Knows t seen new before → FitsReplica word t
+pub fits_behind : (t0 t : Tables) (seen0 seen new : List ℕ) (before now : Theirs) (name word : ℕ) → (kb : KnowsBefore t0 seen0 new before now name word) → Follows t seen new → Knows t seen new before → FitsBehind word t
 fits_behind t0 t seen0 seen new before now name word kb follows k =
     (record { raw = kb.replica.object.raw; kind = kb.replica.object.kind; len = length kb.replica.object.fields }, kb.header, (let r = kb.room in let n = k.new_room in let m = (follows k.found).2 in omega arith))
 
 pub can_place_by : (t0 t : Tables) (seen0 seen new : List ℕ) (before now : Theirs) (name word original : ℕ) → (kb : KnowsBefore t0 seen0 new before now name word) → Follows t seen new → Knows t seen new before
-    → name < length t.olds → IsOriginal seen original kb.replica → (original ≡ word) × IsUncopied name t
+    → name < length t.olds → IsOriginal seen original kb.replica → (original ≡ word) × IsUntaken name t
 can_place_by t0 t seen0 seen new before now name word original kb follows k less is =
     let f = follows k.found in
     let whole = f.1 in

@@ -20,6 +20,7 @@ use gc_monitor::Monitor;
 use std::marker::PhantomData;
 
 /// The walk over the mutator's space goes on up to this end, by a load for each object.
+#[inline(always)]
 pub(crate) fn walk(cells: &Cells, seat: &mut CellsEnd, standing: &mut Monitor, size: u32, end: u32)
     requires cells { seat.old.table_id ≡ cells.now.shared.table_id }
     requires wide { cells.now.shared.table_id.words ≡ size }
@@ -88,6 +89,7 @@ pub(crate) fn compare(
 
 /// The replica of the object at `name`, which has this header word, is the next object of the new space. If the walk over the mutator's space has
 /// not passed that object, it goes on.
+#[inline(always)]
 pub(crate) fn place(
     cells: &Cells,
     seat: &mut CellsEnd,

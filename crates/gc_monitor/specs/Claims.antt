@@ -77,12 +77,12 @@ abbrev pub CanSee : ℕ → ℕ → Tables → Type 0
 CanSee word count t = (h : Header) × (read_header word ≡ Some h) × (length t.olds + (h.len + 2) ≤ t.room) × (length t.olds + (h.len + 2) ≤ count)
 
 -- a replica with this header word would fit behind the walk over the new space
-abbrev pub FitsReplica : ℕ → Tables → Type 0
-FitsReplica word t = (h : Header) × (read_header word ≡ Some h) × (length t.news + (h.len + 2) ≤ t.room)
+abbrev pub FitsBehind : ℕ → Tables → Type 0
+FitsBehind word t = (h : Header) × (read_header word ≡ Some h) × (length t.news + (h.len + 2) ≤ t.room)
 
 -- the object at a was seen, and has no replica yet
-abbrev pub IsUncopied : ℕ → Tables → Type 0
-IsUncopied a t = (1 ≤ a) × (slice_index_or t.olds a 0 ≡ 1)
+abbrev pub IsUntaken : ℕ → Tables → Type 0
+IsUntaken a t = (1 ≤ a) × (slice_index_or t.olds a 0 ≡ 1)
 
 -- if the object at a has a replica, it is the one at b, whose field i was seen
 abbrev pub CanWriteAt : ℕ → ℕ → ℕ → Tables → Type 0

@@ -38,8 +38,8 @@ abbrev pub Saw : ℕ → Tables → Tables → Type 0
 Saw word t after = (h : Header) × (read_header word ≡ Some h) × (length t.olds + (h.len + 2) ≤ largest_space) × (after ≡ old_added t h)
 
 -- the walk stands at this place: the space ends there, or the word that was read there says that the objects do
-abbrev pub WalkStands : {R S : Type 0} → (R → ℕ) → (R → ℕ → Type 0) → (R → S → ℕ → ℕ → S → Type 0) → R → S → ℕ → S → Type 0
-WalkStands count ends reads old s at s' = ((count old ≤ at) × (s' ≡ s)) ⊎ ((word : ℕ) × (at < count old) × reads old s at word s' × ends old word)
+abbrev pub StandsThere : {R S : Type 0} → (R → ℕ) → (R → ℕ → Type 0) → (R → S → ℕ → ℕ → S → Type 0) → R → S → ℕ → S → Type 0
+StandsThere count ends reads old s at s' = ((count old ≤ at) × (s' ≡ s)) ⊎ ((word : ℕ) × (at < count old) × reads old s at word s' × ends old word)
 
 -- ---- a replica more
 

@@ -65,13 +65,13 @@ impl Monitor {
     ghost use Rattle.gc_monitor.specs.Watch.{RootsCorrespond};
     ghost use Rattle.gc_monitor.specs.Tables.{RowsAgree};
     ghost use Rattle.gc_monitor.specs.Telling.{IsMark};
-    ghost use Rattle.gc_monitor.specs.Events.{Made, Saw, WalkStands, Placed, PlacedBy, Wrote, WroteRow, Applied, Freed, HasNoReplica, IsCopy, object_codes, absent_tables, opening_tables, flipped_tables, replica_added, with_due};
+    ghost use Rattle.gc_monitor.specs.Events.{Made, Saw, StandsThere, Placed, PlacedBy, Wrote, WroteRow, Applied, Freed, HasNoReplica, IsCopy, object_codes, absent_tables, opening_tables, flipped_tables, replica_added, with_due};
     ghost use Rattle.gc_monitor.specs.Internal.Rows.{with_due_row};
     ghost use Rattle.gc_monitor.specs.Runs.{PlacedAll, CanPlaceAll};
     ghost use Rattle.gc_graph.specs.Graph.{Ref};
     ghost use Rattle.gc_words.specs.Word.{read_header, read_value};
     ghost use Rattle.gc_monitor.specs.Tables.{Tables};
-    ghost use Rattle.gc_monitor.specs.Claims.{Accepts, CanApply, CanMake, CanSee, FitsReplica, CanPlaceNext, CanWrite, CanWriteAt, CanWriteRow, HasSeenBoth, IsUncopied, IsLinked, OwesNone};
+    ghost use Rattle.gc_monitor.specs.Claims.{Accepts, CanApply, CanMake, CanSee, FitsBehind, CanPlaceNext, CanWrite, CanWriteAt, CanWriteRow, HasSeenBoth, IsUntaken, IsLinked, OwesNone};
 
     /// Returns a checker for spaces of up to `size` words, at least 1.
     pub fn new(alloc: Global, size: u32) -> Result<Monitor, NoMemory>
@@ -148,7 +148,7 @@ impl Monitor {
         ensures found { IsTrue result → IsFalse self.new.lost }
         ensures went { IsTrue result → (word : ℕ) × R.reads old seat.old (length self.old.olds) word seat.new × Saw word self.old self.new }
         ensures within { IsTrue result → length self.new.olds ≤ R.count old }
-        ensures stands { IsFalse result → IsFalse self.new.lost → (self.new ≡ self.old) × WalkStands R.count R.ends R.reads old seat.old (length self.old.olds) seat.new }
+        ensures stands { IsFalse result → IsFalse self.new.lost → (self.new ≡ self.old) × StandsThere R.count R.ends R.reads old seat.old (length self.old.olds) seat.new }
         ensures stays { IsFalse self.old.lost → ((word : ℕ) → length self.old.olds < R.count old → R.reads old seat.old (length self.old.olds) word seat.new → (R.ends old word → ⊥)
             → CanSee word (R.count old) self.old)
             → IsFalse self.new.lost }
@@ -263,7 +263,7 @@ impl Monitor {
             self.lost = true;
             return false;
         };
-        if !self.takes(old, &mut (), new[at], original) {
+        if original as usize >= old.len() || !self.takes(old, &mut (), new[at], original) {
             self.lost = true;
             return false;
         }
@@ -279,12 +279,13 @@ impl Monitor {
     /// is read. The fields of the replica are due, also if it is raw.
     #[inline(always)]
     pub fn place_through<R: Reader>(&mut self, old: R, seat: &mut R::Seat, word: u64, claim: u32)
-        requires can { claim < R.count old → R.can_read old seat.old claim }
+        requires within { claim < R.count old }
+        requires can { R.can_read old seat.old claim }
         ensures lost { IsTrue self.old.lost → IsTrue self.new.lost }
         ensures placed { IsFalse self.new.lost → PlacedBy word claim self.old self.new }
         ensures read { IsFalse self.new.lost → R.reads old seat.old claim word seat.new }
-        ensures stays { IsFalse self.old.lost → FitsReplica word self.old → claim < R.count old
-            → ((found : ℕ) → R.reads old seat.old claim found seat.new → (found ≡ word) × IsUncopied claim self.old) → IsFalse self.new.lost }
+        ensures stays { IsFalse self.old.lost → FitsBehind word self.old
+            → ((found : ℕ) → R.reads old seat.old claim found seat.new → (found ≡ word) × IsUntaken claim self.old) → IsFalse self.new.lost }
     {
         if self.lost {
             return;
@@ -317,17 +318,14 @@ impl Monitor {
     // Whether the object at `claim` has this header word, as it is read, was seen, and has no replica yet.
     #[inline(always)]
     fn takes<R: Reader>(&self, old: R, seat: &mut R::Seat, word: u64, claim: u32) -> bool
-        requires can { claim < R.count old → R.can_read old seat.old claim }
-        ensures free { IsTrue result → IsUncopied claim self.now }
-        ensures within { IsTrue result → claim < R.count old }
+        requires within { claim < R.count old }
+        requires can { R.can_read old seat.old claim }
+        ensures free { IsTrue result → IsUntaken claim self.now }
         ensures read { IsTrue result → R.reads old seat.old claim word seat.new }
-        ensures none { IsFalse result → claim < R.count old → ((found : ℕ) → R.reads old seat.old claim found seat.new
-            → (found ≡ word) × IsUncopied claim self.now) → ⊥ }
+        ensures none { IsFalse result → ((found : ℕ) → R.reads old seat.old claim found seat.new
+            → (found ≡ word) × IsUntaken claim self.now) → ⊥ }
     {
         let from = claim as usize;
-        if from >= old.len() {
-            return false;
-        }
         if old.word(seat, from) != word {
             return false;
         }

@@ -26,9 +26,10 @@ walk-requires-clause-found c = (room_of _ _ _ _ _ c.requires.knows).0
 
 pub place_through-requires : goal.place_through-requires
 place_through-requires c = record {
-  can = λ less. (
+  within = c.requires.low;
+  can = (
     c.walk.ensures.row ∙ c.requires.cells,
-    omega (arith, less, c.requires.wide),
+    omega (arith, c.requires.low, c.requires.wide),
     headers_rule _ _ _ _ _ (ap (λ (m : Sat). m.0.copies) c.walk.ensures.seen ∙ c.requires.copies),
   );
 }
@@ -44,7 +45,7 @@ found c =
     ∥∥₁_elim (c.walk.ensures.along x.0 ∣ x.2 ∣₁) (hlevel props) (λ follows. ∥∥₁_elim (c.walk.ensures.knows x.0 x.1 ∣ x.2 ∣₁ ∣ kb.knows ∣₁) (hlevel props) (λ k.
     c.place_through.ensures.stays c.walk.ensures.found
     (fits_behind c.args.standing.now c.walk.new.standing c.args.seat.now.me.0.seen c.walk.new.seat.me.0.seen x.0 x.1 c.args.seat.now.me.0.theirs c.args.name c.args.header kb follows k)
-    c.requires.low (λ original reads.
+    (λ original reads.
     can_place_by c.args.standing.now c.walk.new.standing c.args.seat.now.me.0.seen c.walk.new.seat.me.0.seen x.0 x.1 c.args.seat.now.me.0.theirs c.args.name c.args.header original kb follows k
     (let e = kb.original in omega arith) (reads.1.2 kb.replica there kb.original)))))
 

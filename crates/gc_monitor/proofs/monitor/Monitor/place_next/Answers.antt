@@ -32,7 +32,7 @@ claim c =
       rows = (agree_of _ c.self.invariant.5 (ap (λ (t : Tables). t.lost) c.self.view_is ∙ c.requires.found)).rows;
       link = subst (λ n. slice_index c.args.new.now (link_place n) ≡ a) at (c.in-Some-claim_in.ensures.0);
       low = (takes.free yes).0;
-      within = takes.within yes;
+      within = omega (arith, c.if-original-old.false);
       start = subst (λ (t : Tables). slice_index_or t.olds a 0 ≡ 1) (sym c.self.view_is) (takes.free yes).1;
       header = subst (λ n. slice_index c.args.old.now a ≡ slice_index c.args.new.now n) at (takes.read yes);
     }
