@@ -253,8 +253,9 @@ def collector_threads(_program, _folder):
             continue
         found = lisp.run_program("churn", "--heap", "20000", "--pauses")
         flips, stops, _, longest, words, waits = [float(number) for number in THREAD_TOTALS.search(found.stderr).groups()]
-        # A flip frees at most the whole heap, which is empty at the beginning. The calls that reserve room keep the collector ahead of allocations.
-        is_right = flips >= words / 20000 - 1 >= 100 and stops >= flips and longest > 0 and waits == 0
+        # A flip frees at most the whole heap, which is empty at the beginning. The calls that reserve room keep the collector ahead of allocations, unless
+        # a busy machine gives its thread no processor for long.
+        is_right = flips >= words / 20000 - 1 >= 100 and stops >= flips and longest > 0 and waits * 20 <= flips
         yield "flips of churn, %s" % way, None if is_right else found.stderr[-300:]
         foreign = [name for name in calls_of(found) if not name.startswith(("gcflip_beside_", "gcflip_thread_"))]
         yield "calls of churn, %s" % way, "there are %s" % foreign if foreign else None
