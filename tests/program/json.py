@@ -13,7 +13,7 @@ from .c_builds import TOP, built_examples, done
 from .harness import Outcome, difference
 
 SOURCES = sorted(glob.glob(os.path.join(TOP, "examples", "json", "*.c")))
-SEED, BYTES, FEW_BYTES = 20261129, 5000000, 50000
+SEED, BYTES = 20261129, 5000000
 USAGE = b"usage: json [--sort] [--indent BLANKS] [--heap WORDS] [--most WORDS]\n"
 # Each level takes three of the 300,000 places of the stack.
 MOST_LEVELS = 100000
@@ -123,12 +123,12 @@ def by_hand(_program, folder):
 
 
 def compared(_program, folder):
-    """Compares random documents with Python's json, printed in each way: one of 5 MB, and with sanitizers a smaller one."""
+    """Compares a random document of 5 MB with Python's json, printed in each way, with sanitizers too."""
     for way, path, why in built_examples(folder, "json", SOURCES):
         if why:
             yield "json by %s" % way, why
             continue
-        document = some_document(BYTES if way == "gcc" else FEW_BYTES)
+        document = some_document(BYTES)
         for is_ascii in (True, False):
             text = json.dumps(document, ensure_ascii=is_ascii, indent=1)
             for options, like in STYLES:
