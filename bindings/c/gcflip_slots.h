@@ -85,6 +85,17 @@ uint32_t gcflip_heap_root_load(gcflip_heap *heap, uint8_t m, uint8_t d, uint32_t
 /* Copies the value of slot s into extra root k: GCFLIP_DONE. */
 uint32_t gcflip_heap_root_store(gcflip_heap *heap, uint8_t m, uint32_t k, uint8_t s);
 
+/* ---- Slots and raw objects */
+
+/* Copies the numbers in `count` fields of the raw object that slot s refers to, from field `first` on, into `words`. Returns GCFLIP_DONE,
+ * or else writes nothing: GCFLIP_NO_OBJECT if the slot refers to no raw object, or GCFLIP_NO_FIELD if the object has fewer fields. */
+uint32_t gcflip_heap_raw_read(const gcflip_heap *heap, uint8_t m, uint8_t s, uint16_t first, uint64_t *words, size_t count);
+
+/* Copies `count` numbers into the fields of the raw object that slot s refers to, from field `first` on. For each number this is a set_number
+ * of slot t and a put of slot t. Returns GCFLIP_DONE, or else writes nothing. GCFLIP_NO_OBJECT and GCFLIP_NO_FIELD are those of
+ * raw_read, and GCFLIP_NO_NUMBER says that a word is 2^63 or more. GCFLIP_OUT_OF_RANGE also if s and t are one slot. */
+uint32_t gcflip_heap_raw_write(gcflip_heap *heap, uint8_t m, uint8_t s, uint16_t first, uint8_t t, const uint64_t *words, size_t count);
+
 /* ---- Slots and addresses */
 
 /* Writes the address of the object that slot s refers to, as gcflip_address does: GCFLIP_DONE or GCFLIP_NO_OBJECT. */
@@ -117,6 +128,8 @@ GCFLIP_OLD(gcflip_heap_same, gcflip_same);
 GCFLIP_OLD(gcflip_heap_look, gcflip_look);
 GCFLIP_OLD(gcflip_heap_root_load, gcflip_copy);
 GCFLIP_OLD(gcflip_heap_root_store, gcflip_copy);
+GCFLIP_OLD(gcflip_heap_raw_read, gcflip_raw_read);
+GCFLIP_OLD(gcflip_heap_raw_write, gcflip_raw_write);
 GCFLIP_OLD(gcflip_heap_address, gcflip_address);
 GCFLIP_OLD(gcflip_heap_moved, gcflip_moved);
 GCFLIP_OLD(gcflip_heap_refer, gcflip_refer);

@@ -5,7 +5,7 @@
 //! flip has to pass the checker. A safepoint is a call, [`Mutator::safepoint`].
 //!
 //! The proofs are about the calls of `gcflip_beside.h`: each command gets the reply of a heap without a collector. The loop of the collector's thread,
-//! `gcflip_thread.c`, is not proved. The tests run it.
+//! `gcflip_thread.c`, is not proved. The tests run it. This crate takes it in place of `std::thread`, so that C, Rust and Python have one loop.
 //!
 //! ```
 //! use gcflip::beside::Mutator;
