@@ -60,7 +60,6 @@ PLACES = {
     "gcflip_beside_c/src/collecting.rt": {("prepared", BY_ARM): 1, ("why", BY_ARM): 1},
     "gc_copy/src/log.rt": {("add_segment", BY_HAND): 1},
     "gc_collected/src/checking.rt": {("found_by", BY_ARM): 1},
-    "gc_concurrent/src/beside.rt": {("mutate_and_stop", BY_HAND): 1},
     "gc_concurrent/src/checking.rt": {("check", BY_ARM): 1},
     "gc_concurrent/src/copier.rt": {("prepare", BY_HAND): 1},
     "gc_concurrent/src/held.rt": {("from", BY_FROM): 1, ("flip", BY_HAND): 1},
@@ -76,7 +75,6 @@ PLACES = {
 # Why a place is not in one of the two ways.
 BY_HAND_REASONS = {
     ("gc_copy/src/log.rt", "add_segment"): "so many segments would take 8 EiB, more than an allocator can give",
-    ("gc_concurrent/src/beside.rt", "mutate_and_stop"): "a run that was cut short tells by its type that an allocation failed",
     ("gc_concurrent/src/copier.rt", "prepare"): "it is in the branch where the standing checker could not reserve its tables",
     ("gc_concurrent/src/held.rt", "flip"): "it is in the arm of a failed allocation, but beside the mutator that is still held",
     ("gcflip_heap_c/src/room.rt", "answer_of"): "too few words are free, and no collection that began in this call flipped; a step does so unless memory is refused",
