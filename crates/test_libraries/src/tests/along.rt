@@ -30,24 +30,52 @@ fn says(standing: &Monitor, old: &[u64], new: &[u64], root: u64) -> bool {
     standing.says_yes(outline(old, &[2]), outline(new, &[root]))
 }
 
+/// How a checker hears of replicas and their fields: of each by itself, or of all in one run.
+#[derive(Clone, Copy)]
+enum Telling {
+    OneByOne,
+    InRuns,
+}
+
+const TELLINGS: [Telling; 2] = [Telling::OneByOne, Telling::InRuns];
+
+/// Tells the checker of the replicas that are new, and lets it look at these fields. In runs it looks at all fields.
+fn tell(standing: &mut Monitor, telling: Telling, old: &[u64], new: &[u64], fields: &[(u32, u16)]) {
+    match telling {
+        Telling::OneByOne => {
+            for _ in 0..new.len() {
+                standing.placed(old, new);
+            }
+            for (at, i) in fields {
+                standing.look(old, new, *at, *i);
+            }
+        }
+        Telling::InRuns => {
+            standing.placed_all(old, new);
+            standing.look_all(old, new, 1, 0, new.len() as u32, 0);
+        }
+    }
+}
+
+const BOTH_FIELDS: [(u32, u16); 2] = [(1, 0), (1, 1)];
+
 /// Returns a checker that has walked over both spaces and looked at both fields.
-fn looked(alloc: Global, old: &[u64], new: &[u64]) -> Result<Monitor, Fail> {
+fn looked(alloc: Global, telling: Telling, old: &[u64], new: &[u64]) -> Result<Monitor, Fail> {
     let mut standing = Monitor::new(alloc, 32)?;
     standing.made(old);
     standing.made(old);
-    standing.placed(old, new);
-    standing.placed(old, new);
-    standing.look(old, new, 1, 0);
-    standing.look(old, new, 1, 1);
+    tell(&mut standing, telling, old, new, &BOTH_FIELDS);
     Ok(standing)
 }
 
 #[test]
 fn what_is_right_is_accepted(rt: HostRuntime) -> Result<(), Fail> {
-    let standing = looked(rt.alloc(), &OLD, &NEW)?;
-    assert!(rt; says(&standing, &OLD, &NEW, 2));
-    assert!(rt; !says(&standing, &OLD, &NEW, 10));
-    assert!(rt; !standing.says_yes(outline(&OLD, &[2]), outline(&NEW, &[])));
+    for telling in TELLINGS {
+        let standing = looked(rt.alloc(), telling, &OLD, &NEW)?;
+        assert!(rt; says(&standing, &OLD, &NEW, 2));
+        assert!(rt; !says(&standing, &OLD, &NEW, 10));
+        assert!(rt; !standing.says_yes(outline(&OLD, &[2]), outline(&NEW, &[])));
+    }
     Ok(())
 }
 
@@ -58,7 +86,7 @@ fn with_nils<'a>(outline: Outline<'a>, nils: u32) -> Outline<'a> {
 
 #[test]
 fn nils_may_be_left_out(rt: HostRuntime) -> Result<(), Fail> {
-    let standing = looked(rt.alloc(), &OLD, &NEW)?;
+    let standing = looked(rt.alloc(), Telling::InRuns, &OLD, &NEW)?;
     let old = with_nils(outline(&OLD, &[2]), 2);
     let new = with_nils(outline(&NEW, &[2]), 2);
     assert!(rt; standing.says_yes(old, new));
@@ -72,11 +100,48 @@ fn nils_may_be_left_out(rt: HostRuntime) -> Result<(), Fail> {
 
 #[test]
 fn a_field_that_is_due_is_not_accepted(rt: HostRuntime) -> Result<(), Fail> {
-    let mut standing = looked(rt.alloc(), &OLD, &NEW)?;
-    standing.written(&OLD, 1, 1);
-    assert!(rt; !says(&standing, &OLD, &NEW, 2));
-    standing.look(&OLD, &NEW, 1, 1);
-    assert!(rt; says(&standing, &OLD, &NEW, 2));
+    for telling in TELLINGS {
+        let mut standing = looked(rt.alloc(), telling, &OLD, &NEW)?;
+        standing.written(&OLD, 1, 1);
+        assert!(rt; !says(&standing, &OLD, &NEW, 2));
+        tell(&mut standing, telling, &OLD, &NEW, &BOTH_FIELDS);
+        assert!(rt; says(&standing, &OLD, &NEW, 2));
+    }
+    Ok(())
+}
+
+#[test]
+fn an_entry_that_is_not_applied_is_not_accepted(rt: HostRuntime) -> Result<(), Fail> {
+    // The mutator wrote another number to the first object's second field.
+    let old = [0, PAIR, 1, 10, 17, EMPTY, 5];
+    for telling in TELLINGS {
+        let mut standing = looked(rt.alloc(), telling, &OLD, &NEW)?;
+        standing.written(&old, 1, 1);
+        tell(&mut standing, telling, &old, &NEW, &BOTH_FIELDS);
+        assert!(rt; !says(&standing, &old, &NEW, 2));
+        standing.applied(&old, &NEW, 1, 1);
+        assert!(rt; !says(&standing, &old, &NEW, 2));
+        standing.applied(&old, &old, 1, 1);
+        assert!(rt; says(&standing, &old, &old, 2));
+    }
+    Ok(())
+}
+
+#[test]
+fn a_field_in_no_run_is_not_accepted(rt: HostRuntime) -> Result<(), Fail> {
+    // Each run is one field of the first replica, as the collector's steps may be.
+    for left_out in 0..3 {
+        let mut standing = Monitor::new(rt.alloc(), 32)?;
+        standing.made(&OLD);
+        standing.made(&OLD);
+        standing.placed_all(&OLD, &NEW);
+        for i in 0..2 {
+            if i != left_out {
+                standing.look_all(&OLD, &NEW, 1, i, 1, i + 1);
+            }
+        }
+        assert!(rt; says(&standing, &OLD, &NEW, 2) == (left_out == 2));
+    }
     Ok(())
 }
 
@@ -84,58 +149,18 @@ fn a_field_that_is_due_is_not_accepted(rt: HostRuntime) -> Result<(), Fail> {
 fn a_link_claims_by_its_low_bits(rt: HostRuntime) -> Result<(), Fail> {
     // The link of the first object is 1 in its low 32 bits, and 5 above them.
     let old = [0, PAIR, 21474836481, 10, 15, EMPTY, 5];
-    let mut standing = looked(rt.alloc(), &old, &NEW)?;
-    standing.written(&old, 1, 1);
-    assert!(rt; !says(&standing, &old, &NEW, 2));
-    standing.applied(&old, &NEW, 1, 1);
-    assert!(rt; says(&standing, &old, &NEW, 2));
     // A link that leads elsewhere.
     let wrong = [0, PAIR, 21474836485, 10, 15, EMPTY, 5];
-    standing.written(&wrong, 1, 1);
-    assert!(rt; !says(&standing, &old, &NEW, 2));
+    for telling in TELLINGS {
+        let mut standing = looked(rt.alloc(), telling, &old, &NEW)?;
+        standing.written(&old, 1, 1);
+        assert!(rt; !says(&standing, &old, &NEW, 2));
+        standing.applied(&old, &NEW, 1, 1);
+        assert!(rt; says(&standing, &old, &NEW, 2));
+        standing.written(&wrong, 1, 1);
+        assert!(rt; !says(&standing, &old, &NEW, 2));
+    }
     Ok(())
-}
-
-#[test]
-fn wrong_words_are_not_accepted(rt: HostRuntime) -> Result<(), Fail> {
-    let number = [0, PAIR, 1, 10, 17, EMPTY, 5];
-    let standing = looked(rt.alloc(), &OLD, &number)?;
-    assert!(rt; !says(&standing, &OLD, &number, 2));
-    let target = [0, PAIR, 1, 2, 15, EMPTY, 5];
-    let standing = looked(rt.alloc(), &OLD, &target)?;
-    assert!(rt; !says(&standing, &OLD, &target, 2));
-    let claim = [0, PAIR, 5, 10, 15, EMPTY, 1];
-    let standing = looked(rt.alloc(), &OLD, &claim)?;
-    assert!(rt; !says(&standing, &OLD, &claim, 2));
-    let twice = [0, PAIR, 1, 10, 15, PAIR, 1];
-    let standing = looked(rt.alloc(), &OLD, &twice)?;
-    assert!(rt; !says(&standing, &OLD, &twice, 2));
-    Ok(())
-}
-
-#[test]
-fn raw_words_have_to_be_equal(rt: HostRuntime) -> Result<(), Fail> {
-    let old = [0, RAW, 3, 8, EMPTY, 1];
-    // A collector that takes the raw word 8 for a reference to the object at 4, whose replica is at 1.
-    let moved = [0, EMPTY, 4, RAW, 1, 2];
-    let copied = [0, EMPTY, 4, RAW, 1, 8];
-    assert!(rt; !raw_says(rt.alloc(), &old, &moved)?);
-    assert!(rt; raw_says(rt.alloc(), &old, &copied)?);
-    Ok(())
-}
-
-fn raw_says(alloc: Global, old: &[u64], new: &[u64]) -> Result<bool, Fail> {
-    let mut standing = Monitor::new(alloc, 32)?;
-    standing.made(old);
-    standing.made(old);
-    standing.placed(old, new);
-    standing.placed(old, new);
-    standing.look(old, new, 3, 0);
-    let mut before = outline(old, &[]);
-    before.end = 6;
-    let mut after = outline(new, &[]);
-    after.end = 6;
-    Ok(standing.says_yes(before, after))
 }
 
 /// What a collector made of a heap, and the fields that it lets the checker look at, by place and number.
@@ -160,8 +185,21 @@ fn whole<'a>(words: &[u64], roots: &'a [u64]) -> Outline<'a> {
     }
 }
 
-/// Returns whether a checker accepts it that has walked over both spaces and looked at these fields.
+/// Returns whether a checker accepts it, in whichever way it is told.
 fn is_accepted(alloc: Global, collected: &Collected) -> Result<bool, Fail> {
+    Ok(accepts(alloc, Telling::OneByOne, collected)? && accepts(alloc, Telling::InRuns, collected)?)
+}
+
+/// Returns whether a checker refuses it, in whichever way it is told.
+fn is_refused(alloc: Global, collected: &Collected) -> Result<bool, Fail> {
+    Ok(
+        !accepts(alloc, Telling::OneByOne, collected)?
+            && !accepts(alloc, Telling::InRuns, collected)?,
+    )
+}
+
+/// Returns whether a checker accepts it that has walked over both spaces and looked at these fields.
+fn accepts(alloc: Global, telling: Telling, collected: &Collected) -> Result<bool, Fail> {
     let Collected {
         old,
         new,
@@ -173,12 +211,7 @@ fn is_accepted(alloc: Global, collected: &Collected) -> Result<bool, Fail> {
     for _ in 0..old.len() {
         standing.made(old);
     }
-    for _ in 0..new.len() {
-        standing.placed(old, new);
-    }
-    for (at, i) in *fields {
-        standing.look(old, new, *at, *i);
-    }
+    tell(&mut standing, telling, old, new, fields);
     Ok(standing.says_yes(whole(old, old_roots), whole(new, new_roots)))
 }
 
@@ -189,7 +222,7 @@ fn of_old<'a>(new: &'a [u64], new_roots: &'a [u64]) -> Collected<'a> {
         new,
         old_roots: &[2],
         new_roots,
-        fields: &[(1, 0), (1, 1)],
+        fields: &BOTH_FIELDS,
     }
 }
 
@@ -198,9 +231,9 @@ fn a_wrong_field_is_not_accepted(rt: HostRuntime) -> Result<(), Fail> {
     let alloc = rt.alloc();
     assert!(rt; is_accepted(alloc, &of_old(&NEW, &[2]))?);
     let number = [0, PAIR, 1, 10, 17, EMPTY, 5];
-    assert!(rt; !is_accepted(alloc, &of_old(&number, &[2]))?);
+    assert!(rt; is_refused(alloc, &of_old(&number, &[2]))?);
     let nil = [0, PAIR, 1, 10, 0, EMPTY, 5];
-    assert!(rt; !is_accepted(alloc, &of_old(&nil, &[2]))?);
+    assert!(rt; is_refused(alloc, &of_old(&nil, &[2]))?);
     Ok(())
 }
 
@@ -208,9 +241,19 @@ fn a_wrong_field_is_not_accepted(rt: HostRuntime) -> Result<(), Fail> {
 fn a_wrong_target_is_not_accepted(rt: HostRuntime) -> Result<(), Fail> {
     let alloc = rt.alloc();
     let itself = [0, PAIR, 1, 2, 15, EMPTY, 5];
-    assert!(rt; !is_accepted(alloc, &of_old(&itself, &[2]))?);
+    assert!(rt; is_refused(alloc, &of_old(&itself, &[2]))?);
     let no_start = [0, PAIR, 1, 12, 15, EMPTY, 5];
-    assert!(rt; !is_accepted(alloc, &of_old(&no_start, &[2]))?);
+    assert!(rt; is_refused(alloc, &of_old(&no_start, &[2]))?);
+    Ok(())
+}
+
+#[test]
+fn a_wrong_claim_is_not_accepted(rt: HostRuntime) -> Result<(), Fail> {
+    let alloc = rt.alloc();
+    let swapped = [0, PAIR, 5, 10, 15, EMPTY, 1];
+    assert!(rt; is_refused(alloc, &of_old(&swapped, &[2]))?);
+    let twice = [0, PAIR, 1, 10, 15, PAIR, 1];
+    assert!(rt; is_refused(alloc, &of_old(&twice, &[2]))?);
     Ok(())
 }
 
@@ -219,10 +262,10 @@ fn a_replica_with_another_header_is_not_accepted(rt: HostRuntime) -> Result<(), 
     let alloc = rt.alloc();
     // The second replica has kind 1 in place of 0.
     let kind = [0, PAIR, 1, 10, 15, EMPTY + 65536, 5];
-    assert!(rt; !is_accepted(alloc, &of_old(&kind, &[2]))?);
+    assert!(rt; is_refused(alloc, &of_old(&kind, &[2]))?);
     // It is raw.
     let raw = [0, PAIR, 1, 10, 15, EMPTY + 33554432, 5];
-    assert!(rt; !is_accepted(alloc, &of_old(&raw, &[2]))?);
+    assert!(rt; is_refused(alloc, &of_old(&raw, &[2]))?);
     Ok(())
 }
 
@@ -243,17 +286,17 @@ fn a_wrong_back_link_is_not_accepted(rt: HostRuntime) -> Result<(), Fail> {
         new: &[0, EMPTY, 3, EMPTY, 1],
         ..right
     };
-    assert!(rt; !is_accepted(alloc, &swapped)?);
+    assert!(rt; is_refused(alloc, &swapped)?);
     let none = Collected {
         new: &[0, EMPTY, 1, EMPTY, 0],
         ..right
     };
-    assert!(rt; !is_accepted(alloc, &none)?);
+    assert!(rt; is_refused(alloc, &none)?);
     let wild = Collected {
         new: &[0, EMPTY, 1, EMPTY, 4294967299],
         ..right
     };
-    assert!(rt; !is_accepted(alloc, &wild)?);
+    assert!(rt; is_refused(alloc, &wild)?);
     Ok(())
 }
 
@@ -269,12 +312,12 @@ fn a_root_without_a_replica_is_not_accepted(rt: HostRuntime) -> Result<(), Fail>
         new_roots: &[2, 6],
         fields: &[],
     };
-    assert!(rt; !is_accepted(alloc, &kept)?);
+    assert!(rt; is_refused(alloc, &kept)?);
     let forgotten = Collected {
         new_roots: &[2, 0],
         ..kept
     };
-    assert!(rt; !is_accepted(alloc, &forgotten)?);
+    assert!(rt; is_refused(alloc, &forgotten)?);
     let unreachable = Collected {
         old_roots: &[2, 0],
         new_roots: &[2, 0],
@@ -296,7 +339,7 @@ fn objects_and_replicas_are_one_to_one(rt: HostRuntime) -> Result<(), Fail> {
         new_roots: &[2, 2],
         fields: &[],
     };
-    assert!(rt; !is_accepted(alloc, &merged)?);
+    assert!(rt; is_refused(alloc, &merged)?);
     // One object becomes two.
     let split = Collected {
         new: &[0, EMPTY, 1, EMPTY, 1],
@@ -304,7 +347,7 @@ fn objects_and_replicas_are_one_to_one(rt: HostRuntime) -> Result<(), Fail> {
         new_roots: &[2, 6],
         ..merged
     };
-    assert!(rt; !is_accepted(alloc, &split)?);
+    assert!(rt; is_refused(alloc, &split)?);
     Ok(())
 }
 
@@ -320,12 +363,12 @@ fn an_original_starts_an_object(rt: HostRuntime) -> Result<(), Fail> {
         new_roots: &[2],
         fields: &[],
     };
-    assert!(rt; !is_accepted(alloc, &inside)?);
+    assert!(rt; is_refused(alloc, &inside)?);
     let outside = Collected {
         new: &[0, EMPTY, 4],
         ..inside
     };
-    assert!(rt; !is_accepted(alloc, &outside)?);
+    assert!(rt; is_refused(alloc, &outside)?);
     let at_start = Collected {
         new: &[0, RAW, 1, EMPTY],
         old_roots: &[2],
@@ -333,6 +376,27 @@ fn an_original_starts_an_object(rt: HostRuntime) -> Result<(), Fail> {
         ..inside
     };
     assert!(rt; is_accepted(alloc, &at_start)?);
+    Ok(())
+}
+
+#[test]
+fn raw_words_have_to_be_equal(rt: HostRuntime) -> Result<(), Fail> {
+    let alloc = rt.alloc();
+    let old = [0, RAW, 3, 8, EMPTY, 1];
+    // A collector that takes the raw word 8 for a reference to the object at 4, whose replica is at 1.
+    let moved = Collected {
+        old: &old,
+        new: &[0, EMPTY, 4, RAW, 1, 2],
+        old_roots: &[],
+        new_roots: &[],
+        fields: &[(3, 0)],
+    };
+    assert!(rt; is_refused(alloc, &moved)?);
+    let copied = Collected {
+        new: &[0, EMPTY, 4, RAW, 1, 8],
+        ..moved
+    };
+    assert!(rt; is_accepted(alloc, &copied)?);
     Ok(())
 }
 
@@ -352,31 +416,33 @@ fn raw_words_that_differ_are_not_accepted(rt: HostRuntime) -> Result<(), Fail> {
         new: &[0, RAW, 1, 9],
         ..right
     };
-    assert!(rt; !is_accepted(alloc, &differs)?);
+    assert!(rt; is_refused(alloc, &differs)?);
     let looked = Collected {
         fields: &[(1, 0)],
         ..differs
     };
-    assert!(rt; !is_accepted(alloc, &looked)?);
+    assert!(rt; is_refused(alloc, &looked)?);
     Ok(())
 }
 
 #[test]
 fn what_is_lost_stays_lost(rt: HostRuntime) -> Result<(), Fail> {
-    let mut standing = looked(rt.alloc(), &OLD, &NEW)?;
-    assert!(rt; says(&standing, &OLD, &NEW, 2));
-    standing.lose();
-    assert!(rt; !says(&standing, &OLD, &NEW, 2));
-    standing.look(&OLD, &NEW, 1, 0);
-    standing.flipped();
-    standing.dropped();
-    assert!(rt; !says(&standing, &OLD, &NEW, 2));
+    for telling in TELLINGS {
+        let mut standing = looked(rt.alloc(), telling, &OLD, &NEW)?;
+        assert!(rt; says(&standing, &OLD, &NEW, 2));
+        standing.lose();
+        assert!(rt; !says(&standing, &OLD, &NEW, 2));
+        tell(&mut standing, telling, &OLD, &NEW, &BOTH_FIELDS);
+        standing.flipped();
+        standing.dropped();
+        assert!(rt; !says(&standing, &OLD, &NEW, 2));
+    }
     Ok(())
 }
 
 #[test]
 fn marks_tell_where_objects_start(rt: HostRuntime) -> Result<(), Fail> {
-    let standing = looked(rt.alloc(), &OLD, &NEW)?;
+    let standing = looked(rt.alloc(), Telling::InRuns, &OLD, &NEW)?;
     for at in [1, 5] {
         assert!(rt; standing.starts_at(at));
     }
@@ -409,18 +475,19 @@ fn full(words: &[u64]) -> Outline<'_> {
 #[test]
 fn what_is_given_up_is_placed_again(rt: HostRuntime) -> Result<(), Fail> {
     let words = empty_objects(rt.alloc(), 300)?;
-    let mut standing = Monitor::new(rt.alloc(), 601)?;
-    for _ in 0..300 {
-        standing.made(&words);
-    }
-    for placed in [300, 5, 0, 130, 300, 300] {
-        for _ in 0..placed {
-            standing.placed(&words, &words);
+    for telling in TELLINGS {
+        let mut standing = Monitor::new(rt.alloc(), 601)?;
+        for _ in 0..300 {
+            standing.made(&words);
         }
-        let yes = standing.says_yes(full(&words), full(&words));
-        assert!(rt; yes == (placed == 300));
-        standing.dropped();
-        assert!(rt; standing.starts_at(1));
+        for placed in [300, 5, 0, 130, 300, 300] {
+            let new = empty_objects(rt.alloc(), placed)?;
+            tell(&mut standing, telling, &words, &new, &[]);
+            let yes = standing.says_yes(full(&words), full(&words));
+            assert!(rt; yes == (placed == 300));
+            standing.dropped();
+            assert!(rt; standing.starts_at(1));
+        }
     }
     Ok(())
 }
@@ -428,17 +495,19 @@ fn what_is_given_up_is_placed_again(rt: HostRuntime) -> Result<(), Fail> {
 #[test]
 fn no_original_is_taken_twice_after_a_collection_is_given_up(rt: HostRuntime) -> Result<(), Fail> {
     let words = empty_objects(rt.alloc(), 2)?;
+    let first = [0, EMPTY, 1];
     let twice = [0, EMPTY, 1, EMPTY, 1];
-    for new in [&twice[..], &words[..]] {
-        let mut standing = Monitor::new(rt.alloc(), 5)?;
-        standing.made(&words);
-        standing.made(&words);
-        standing.placed(&words, &words);
-        standing.dropped();
-        standing.placed(&words, new);
-        standing.placed(&words, new);
-        let yes = standing.says_yes(full(&words), full(new));
-        assert!(rt; yes == (new[4] == 3));
+    for telling in TELLINGS {
+        for new in [&twice[..], &words[..]] {
+            let mut standing = Monitor::new(rt.alloc(), 5)?;
+            standing.made(&words);
+            standing.made(&words);
+            tell(&mut standing, telling, &words, &first, &[]);
+            standing.dropped();
+            tell(&mut standing, telling, &words, new, &[]);
+            let yes = standing.says_yes(full(&words), full(new));
+            assert!(rt; yes == (new[4] == 3));
+        }
     }
     Ok(())
 }
