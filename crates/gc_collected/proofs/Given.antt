@@ -11,7 +11,7 @@ use Rattle.gc_graph.specs.declared.reply.Reply.{Reply}
 use Rattle.gc_graph.specs.declared.reply.Reply.TheVariants.{Done}
 use Rattle.gc_words.specs.Space.{free_in}
 use Rattle.gc_words.specs.Word.{value_of}
-use Rattle.gc_heap.specs.Filling.{PutsValue}
+use Rattle.gc_heap.specs.Filling.{PutsAll, PutsValue}
 use Rattle.gc_heap.specs.Heap.{HeapWords, graph_in}
 use Rattle.gc_heap.specs.Places.{root_at}
 use Rattle.gc_model.specs.Belonging.{Belongs, BelongsBut, HasField}
@@ -23,7 +23,7 @@ use Rattle.gc_copy.specs.Words.{CollectionWords, BelongsTo, LinksNothing, collec
 use Rattle.gc_copy.proofs.Public.{links_kept, nothing_linked}
 use Rattle.gc_collected.specs.Values.{put_value_step, with_roots}
 use Rattle.gc_collected.specs.Internal.CollectedHeap.{Fits, state_in}
-use Rattle.gc_collected.specs.Internal.Given.{PutsAll, fields_put, puts_step}
+use Rattle.gc_collected.specs.Internal.Given.{fields_put, puts_step}
 use Rattle.gc_collected.specs.Internal.Together.{LogsIfOpen}
 use Rattle.gc_collected.proofs.Monitor.Ran.{Ran, ran_none, ran_on, ran_one}
 use Rattle.gc_collected.proofs.Together.{belongs_alike, logged_is, logged_none, logged_twice, noted, noted_in}

@@ -11,7 +11,7 @@ use Rattle.gc_words.specs.Image.{Block, header_at, header_of}
 use Rattle.gc_words.specs.Space.{end_of}
 use Rattle.gc_words.specs.Word.{value_of}
 use Rattle.gc_words.specs.declared.header.Header.{Header}
-use Rattle.gc_heap.specs.Filling.{TakesFields}
+use Rattle.gc_heap.specs.Filling.{PutsAll, TakesFields}
 use Rattle.gc_heap.specs.Heap.{HeapWords, IsHeap, graph_in}
 use Rattle.gc_heap.specs.Places.{root_at}
 use Rattle.gc_model.specs.Members.{In}
@@ -24,7 +24,7 @@ use Rattle.gc_collected.specs.Values.{put_value_step}
 use Rattle.gc_collected.specs.declared.giving.FieldValue.{FieldValue}
 use Rattle.gc_collected.specs.declared.giving.FieldValue.TheVariants as values
 use Rattle.gc_collected.specs.declared.known.KnownRoots.{KnownRoots}
-use Rattle.gc_collected.specs.Internal.Given.{PutsAll, field_given, fields_given, fields_put, given_at, given_from, puts_step}
+use Rattle.gc_collected.specs.Internal.Given.{field_given, fields_given, fields_put, given_at, given_from, puts_step}
 use Rattle.gc_collected.specs.Internal.CollectedHeap.{state_in}
 use Rattle.gc_collected.specs.Internal.KnownRoots.{KnowsRoots}
 use Rattle.gc_collected.specs.Internal.Together.{Logs}

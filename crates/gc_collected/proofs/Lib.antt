@@ -16,9 +16,7 @@ pub mod LegalRuns
 mod Marks
 mod Monitor
 mod NewFrom
-mod Noted
 mod Numbered
-mod NumbersPut
 mod OtherCommands
 mod Parts
 mod ByPlace

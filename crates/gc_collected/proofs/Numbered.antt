@@ -10,7 +10,7 @@ use Rattle.gc_graph.specs.Machine.{Roomy, is_number, put_field, roomy_step}
 use Rattle.gc_graph.specs.declared.command.Op.TheVariants.{NewRaw}
 use Rattle.gc_graph.specs.declared.reply.Reply.{Reply}
 use Rattle.gc_graph.specs.declared.reply.Reply.TheVariants.{Full}
-use Rattle.gc_heap.specs.Filling.{PutsValue}
+use Rattle.gc_heap.specs.Filling.{PutsAll, PutsValue, numbered}
 use Rattle.gc_heap.specs.Heap.{HeapWords, graph_in}
 use Rattle.gc_heap.specs.Places.{root_at}
 use Rattle.gc_model.specs.Belonging.{Laid}
@@ -21,9 +21,9 @@ use Rattle.gc_model.proofs.Public.{get_set_same, lookup_laid}
 use Rattle.gc_collected.specs.Numbers.{new_numbers_step}
 use Rattle.gc_collected.specs.declared.giving.FieldValue.TheVariants.{Number}
 use Rattle.gc_collected.specs.declared.known.KnownRoots.{KnownRoots}
-use Rattle.gc_collected.specs.Internal.Given.{PutsAll, fields_put, given_from, puts_step}
+use Rattle.gc_collected.specs.Internal.Given.{fields_put, given_from, puts_step}
 use Rattle.gc_collected.specs.Internal.KnownRoots.{KnowsRoots}
-use Rattle.gc_collected.specs.Internal.Numbered.{AreApart, IsNewRaw, numbered, numbers_given, sources_at}
+use Rattle.gc_collected.specs.Internal.Numbered.{AreApart, IsNewRaw, numbers_given, sources_at}
 use Rattle.gc_collected.specs.Internal.Together.{fields_from}
 use Rattle.gc_collected.proofs.GivenFields.{given_known, given_open, gives_are}
 use Rattle.gc_collected.proofs.Unwritten.{logged_open}

@@ -1,7 +1,7 @@
 -- Commands that write no field: they change only the heap, whether a collection is open or not.
 use Rattle.std.proofs.lemmas.Grind.{common_steps}
-use Rattle.std.proofs.Common.{◌≡◌, ℕ, ◌<◌, Option, Some, None, ap, subst, arith, rules}
-use Rattle.gc_graph.specs.Slots.{SlotName, roots_of}
+use Rattle.std.proofs.Common.{◌≡◌, ℕ, ◌<◌, Option, Some, None, subst, arith, rules}
+use Rattle.gc_graph.specs.Slots.{roots_of}
 use Rattle.std.specs.Option.{option_map}
 use Rattle.gc_graph.specs.declared.command.Op.{Op}
 use Rattle.gc_graph.specs.declared.reply.Reply.{Reply}
@@ -12,10 +12,8 @@ use Rattle.gc_copy.specs.Words.{CollectionWords, collection_in, state_of}
 use Rattle.gc_copy.proofs.Public.{open_left, idle_left, still_unlinked}
 use Rattle.gc_model.specs.State.{State}
 use Rattle.gc_collected.specs.Internal.CollectedHeap.{BelongsIfOpen, Fits}
-use Rattle.gc_collected.specs.Internal.KnownRoots.{KnowsRoots}
-use Rattle.gc_collected.specs.declared.known.KnownRoots.{KnownRoots}
 use Rattle.gc_graph.specs.declared.command.Op.TheVariants as ops
-use Rattle.gc_collected.proofs.Marks.{WritesBelow, SetsPlain, slot_below, plain_command, put_knows}
+use Rattle.gc_collected.proofs.Marks.{WritesBelow, slot_below}
 
 pub still_fits : (epoch : ℕ) (heap new : HeapWords) (o : Option CollectionWords) (m : ℕ) (op : Op) (reply : Reply) → IsHeap heap → ¬ WritesField op → Performs heap m op reply new → Fits epoch heap o → Fits epoch new o
 still_fits epoch heap new None m op reply is none performs fits = still_unlinked epoch heap new m op reply performs fits
@@ -61,9 +59,3 @@ sets_below mutators m op less low = grind (arith, common_steps, slot_below)
 pub idle_mutated : (epoch : ℕ) (heap new : HeapWords) (o : Option CollectionWords) (m : ℕ) (op : Op) (reply : Reply) → IsHeap heap → ((c : CollectionWords) → o ≡ Some c → ⊥) → Performs heap m op reply new → Fits epoch heap o
     → (mutate (state_of heap (option_map collection_in o)) m op ≡ (reply, state_of new (option_map collection_in o))) × Fits epoch new o
 idle_mutated epoch heap new o m op reply is none performs fits = search (rules, idle_left, still_unlinked)
-
--- ---- a slot is set to nil or a number, and then written to a field
-
-pub plain_put_knows : (known : KnownRoots) (s one new : State) (m i : ℕ) (op : Op) (d t : SlotName) (first reply : Reply) → SetsPlain op → SetsSlot op → m < s.mutators → mutate s m op ≡ (first, one) → mutate one m (ops.Put d i t) ≡ (reply, new) → KnowsRoots known s → KnowsRoots known new
-plain_put_knows known s one new m i op d t first reply plain low less a b k =
-    put_knows known one new m i d t reply b (subst (KnowsRoots known) (ap (λ (x : Reply × State). x.1) a) (plain_command known s m op plain (sets_below s.mutators m op less low) k))

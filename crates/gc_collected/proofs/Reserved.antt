@@ -1,9 +1,9 @@
--- Room in the logs of an open collection changes neither its state nor what is known of the roots. While none is open, the heap is all.
-use Rattle.std.proofs.Common.{◌≡◌, ℕ, Option, Some, None, refl, sym, ap, ◌∙◌, subst}
+-- Room in the logs of an open collection changes neither its state nor what is known of the roots.
+use Rattle.std.proofs.Common.{◌≡◌, ℕ, Option, Some, refl, sym, ap, ◌∙◌, subst}
 use Rattle.std.specs.Option.{option_map}
 use Rattle.gc_heap.specs.Heap.{HeapWords}
 use Rattle.gc_model.specs.State.{Collection, State}
-use Rattle.gc_copy.specs.Words.{CollectionWords, BelongsTo, LinksNothing, collection_in, state_of, open_state, idle_state}
+use Rattle.gc_copy.specs.Words.{CollectionWords, BelongsTo, collection_in, state_of, open_state}
 use Rattle.gc_monitor.specs.Tables.{Tables}
 use Rattle.gc_collected.specs.Internal.Follows.{Follows}
 use Rattle.gc_collected.specs.Internal.CollectedHeap.{Fits}
@@ -22,14 +22,6 @@ reserved epoch known heap o c next is same belongs k = (
   subst (KnowsRoots known) (sym (opened_at heap o c next (state_of heap (option_map collection_in o)) is same refl)) k.1,
   k.2,
 )
-
--- while none is open
-pub none_open : {C : Type 0} (epoch : ℕ) (known after : KnownRoots) (heap new : HeapWords) (o : Option CollectionWords) → o ≡ None → (LinksNothing epoch heap → LinksNothing epoch new) → (KnowsRoots known (idle_state heap) → KnowsRoots after (idle_state new))
-    → Fits epoch heap o × KnowsRoots known (state_of heap (option_map collection_in o)) × C → Fits epoch new o × KnowsRoots after (state_of new (option_map collection_in o)) × C
-none_open epoch known after heap new o none links knows k =
-    let was = subst (λ o. Fits epoch heap o × KnowsRoots known (state_of heap (option_map collection_in o))) none (k.0, k.1) in
-    let now = subst (λ o. Fits epoch new o × KnowsRoots after (state_of new (option_map collection_in o))) (sym none) (links was.0, knows was.1) in
-    (now.0, now.1, k.2)
 
 -- and a monitor that follows the heap still does
 pub reserved_follows : (heap : HeapWords) (o : Option CollectionWords) (c next : CollectionWords) (t : Tables) → o ≡ Some c → collection_in next ≡ collection_in c → Follows (state_of heap (option_map collection_in o)) t → Follows (open_state heap next) t

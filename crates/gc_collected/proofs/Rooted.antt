@@ -1,20 +1,14 @@
 -- A monitor that follows a collected heap goes on following it where a root takes a value: no object changes.
-use Rattle.std.proofs.Common.{◌≡◌, inl, ℕ, zero, suc, refl, subst, sym}
+use Rattle.std.proofs.Common.{◌≡◌, inl, ℕ, refl, subst, sym}
 use Rattle.std.specs.Prelude.{IfSome}
 use Rattle.gc_graph.specs.Graph.{Value}
-use Rattle.gc_graph.specs.declared.command.Op.TheVariants.{Nil}
-use Rattle.gc_graph.specs.declared.reply.Reply.{Reply}
-use Rattle.gc_heap.specs.ExtraRoots.{extra_root}
 use Rattle.gc_model.specs.State.{State}
-use Rattle.gc_model.specs.Steps.{mutate}
 use Rattle.gc_model.specs.Belonging.{IsOpened}
-use Rattle.gc_model.proofs.Public.{WrittenBy}
 use Rattle.gc_monitor.specs.Tables.{Tables}
-use Rattle.gc_collected.specs.ExtraRoots.{clear_step}
 use Rattle.gc_collected.specs.Internal.Follows.{Follows}
 use Rattle.gc_collected.specs.Internal.Values.{with_value}
 use Rattle.gc_collected.proofs.Monitor.Follows.{follows_quiet}
-use Rattle.gc_collected.proofs.Monitor.Ran.{Ran, ran_none, ran_on, ran_one}
+use Rattle.gc_collected.proofs.Monitor.Ran.{Ran, ran_none}
 
 -- no field was written
 abbrev Never : ℕ → ℕ → Type 0

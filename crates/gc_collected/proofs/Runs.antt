@@ -3,7 +3,7 @@ use Rattle.std.proofs.Common.{◌≡◌, ℕ, zero, suc, ◌+◌, ◌-◌, ◌<�
 use Rattle.gc_graph.specs.Graph.{Value, Ref, root}
 use Rattle.gc_graph.specs.declared.command.Op.TheVariants.{Put}
 use Rattle.gc_graph.specs.declared.reply.Reply.{Reply}
-use Rattle.gc_heap.specs.Filling.{PutsValue}
+use Rattle.gc_heap.specs.Filling.{PutsAll, PutsValue}
 use Rattle.gc_heap.specs.Heap.{HeapWords, graph_in}
 use Rattle.gc_heap.specs.Places.{root_at}
 use Rattle.gc_model.specs.State.{Collection, State}
@@ -17,7 +17,7 @@ use Rattle.gc_graph.specs.declared.reply.Reply.TheVariants.{Done}
 use Rattle.gc_collected.specs.Copying.{copy_reply, fills_step, object_in, value_in, values_step}
 use Rattle.gc_collected.specs.Values.{put_value_step}
 use Rattle.gc_collected.specs.declared.known.KnownRoots.{KnownRoots}
-use Rattle.gc_collected.specs.Internal.Given.{CopiesAll, PutsAll, fields_put, puts_step, same_from}
+use Rattle.gc_collected.specs.Internal.Given.{CopiesAll, fields_put, puts_step, same_from}
 use Rattle.gc_collected.specs.Internal.KnownRoots.{KnowsRoots}
 use Rattle.gc_collected.specs.Internal.Together.{LogsIfOpen, fields_from}
 use Rattle.gc_collected.proofs.Given.{given_fits, given_ran, given_state, one_state, root_value_is, target_kept, within_kept}

@@ -1,5 +1,5 @@
 -- Values that go through a slot: a `Put` of the slot puts its value, which needs no root, and the slot keeps the last one.
-use Rattle.std.proofs.Common.{◌≡◌, ◌≢◌, ℕ, zero, suc, ◌+◌, ◌-◌, ◌<◌, List, [], ◌∷◌, length, Option, Some, refl, sym, ap, ◌∙◌, subst, arith}
+use Rattle.std.proofs.Common.{◌≡◌, ◌≢◌, ℕ, zero, suc, ◌+◌, ◌-◌, ◌<◌, List, [], ◌∷◌, get_or, length, map, Option, Some, refl, sym, ap, ◌∙◌, subst, arith}
 use Rattle.std.specs.Prelude.{slice_get, slice_set}
 use Rattle.std.specs.Option.{unwrap_or}
 use Rattle.gc_graph.specs.Graph.{Value, Nil, Num, Object, Graph, field_of, object_of, root}
@@ -11,12 +11,15 @@ use Rattle.gc_graph.specs.declared.command.Op.TheVariants.{Get, Num as SetNumber
 use Rattle.gc_graph.specs.declared.reply.Reply.{Reply}
 use Rattle.gc_graph.specs.declared.reply.Reply.TheVariants as replies
 use Rattle.gc_graph.proofs.Public.{in_place}
+use Rattle.gc_heap.specs.Raws.{numbers_reply, raw_numbers}
 use Rattle.gc_model.specs.State.{Collection, State, heap_end}
 use Rattle.gc_model.specs.Steps.{logged, mutate, written}
 use Rattle.gc_model.proofs.Public.{get_set_other, get_set_same}
 use Rattle.gc_collected.specs.Copying.{copy_reply, copy_step, copy_fields_step, copy_values_step, object_in, value_in, values_step}
 use Rattle.gc_collected.specs.Values.{put_value_step, with_roots}
-use Rattle.gc_collected.specs.Writing.{after_reply}
+use Rattle.gc_collected.specs.Giving.{gives_step}
+use Rattle.gc_collected.specs.Writing.{after_reply, numbers_step, put_numbers_step, put_root_numbers_step}
+use Rattle.gc_collected.specs.declared.giving.FieldValue.TheVariants.{Number}
 use Rattle.gc_collected.proofs.CopiesDone.{goes_on, later, taker_named, value_again, value_put, value_there}
 use Rattle.gc_collected.proofs.Given.{value_is}
 use Rattle.gc_collected.proofs.Together.{logged_none}
@@ -98,6 +101,43 @@ get_held s m j t u v there =
     ∙ ((λ k. (becomes s m op (get_field g (place t m) (there.1 k) (field_of (there.1 k) j))).1)
     ∙ (ap (λ f. (becomes s m op (get_field g (place t m) (Some there.0) f)).1) there.2
     ∙ ap (λ (x : Reply × State). x.1) (still_open s m replies.Done (holding s (place t m) v).heap.graph)))
+
+-- ---- numbers that are written through the slot
+
+first_number : (s : State) (m i n : ℕ) (d t : SlotName) (w : Value) → place t m ≢ place d m → place d m < length s.heap.graph.roots → place t m < length s.heap.graph.roots
+    → (mutate (mutate (holding s (place t m) w) m (SetNumber t n)).1 m (Put d i t)).1 ≡ holding (put_value_step s m (place d m) i (Num n)).1 (place t m) (Num n)
+first_number s m i n d t w apart within held =
+    ap (λ (x : Reply × State). (mutate x.1 m (Put d i t)).1) (number_held (holding s (place t m) w) m n t)
+    ∙ ap (λ x. (mutate x m (Put d i t)).1) (held_again s (place t m) w (Num n))
+    ∙ ap (λ (x : Reply × State). x.1) (put_held s m i d t (Num n) apart within held)
+
+numbers_held : (rest : List ℕ) (s : State) (m i n : ℕ) (d t : SlotName) (w : Value) → place t m ≢ place d m → place d m < length s.heap.graph.roots → place t m < length s.heap.graph.roots
+    → numbers_step (holding s (place t m) w) m d t i (n ∷ rest) ≡ holding (gives_step s m (place d m) i (map Number (n ∷ rest))) (place t m) (Num (get_or (n ∷ rest) (length rest) 0))
+numbers_held [] s m i n d t w apart within held = first_number s m i n d t w apart within held
+numbers_held (k ∷ rest) s m i n d t w apart within held =
+    ap (λ x. numbers_step x m d t (suc i) (k ∷ rest)) (first_number s m i n d t w apart within held)
+    ∙ numbers_held rest (put_value_step s m (place d m) i (Num n)).1 m (suc i) k d t (Num n) apart within held
+
+-- the slot takes the last number
+pub numbers_through : (old mid new : State) (m i : ℕ) (d t : SlotName) (words : List ℕ) (reply set : Reply) → place t m ≢ place d m → place d m < length old.heap.graph.roots → place t m < length old.heap.graph.roots
+    → put_root_numbers_step old m (place d m) i words ≡ (reply, mid) → reply ≡ replies.Done → 0 < length words → mutate mid m (SetNumber t (get_or words (length words - 1) 0)) ≡ (set, new) → put_numbers_step old m d i t words ≡ (reply, new)
+numbers_through old mid new m i d t [] reply set apart within held puts is some sets = absurd (omega (arith, some))
+numbers_through old mid new m i d t (n ∷ rest) reply set apart within held puts is some sets =
+    let q = place t m in
+    let words = n ∷ rest in
+    let last = get_or words (length words - 1) 0 in
+    let all = gives_step old m (place d m) i (map Number words) in
+    let said : numbers_reply i words (raw_numbers old.heap.graph d m) ≡ reply = ap (λ (x : Reply × State). x.0) puts in
+    let is_done = said ∙ is in
+    let given : all ≡ mid = sym (ap (λ r. after_reply r old all) is_done) ∙ ap (λ (x : Reply × State). x.1) puts in
+    let steps : numbers_step old m d t i words ≡ new
+    = ap (λ x. numbers_step x m d t i words) (sym (held_before old q))
+    ∙ (numbers_held rest old m i n d t (root old.heap.graph q) apart within held
+    ∙ (ap (λ k. holding all q (Num (get_or words k 0))) (let same : length rest ≡ length words - 1 = omega arith in same)
+    ∙ (ap (λ x. holding x q (Num last)) given
+    ∙ (sym (ap (λ (x : Reply × State). x.1) (number_held mid m last t))
+    ∙ ap (λ (x : Reply × State). x.1) sets)))) in
+    λ k. (said k, (ap (λ r. after_reply r old (numbers_step old m d t i words)) is_done ∙ steps) k)
 
 -- ---- fields that are copied through the slot
 

@@ -1,30 +1,20 @@
 -- Numbers that are written to a raw object in one call.
-use Rattle.std.specs.Prelude.{ℕ, suc, ◌+◌, ◌^◌, nat_le, nat_lt, Bool, if◌then◌else◌, List, [], ◌∷◌, length, map, Option, Some, None}
-use Rattle.std.specs.List.{list_all}
+use Rattle.std.specs.Prelude.{ℕ, suc, List, [], ◌∷◌, map}
 use Rattle.gc_graph.specs.Slots.{SlotName}
 use Rattle.gc_graph.specs.declared.command.Op.TheVariants.{Num, Put}
 use Rattle.gc_graph.specs.declared.reply.Reply.{Reply}
-use Rattle.gc_graph.specs.declared.reply.Reply.TheVariants.{Done, NoObject, NoField, NoNumber}
+use Rattle.gc_graph.specs.declared.reply.Reply.TheVariants.{Done}
 use Rattle.gc_heap.specs.Places.{root_at}
-use Rattle.gc_heap.specs.Raws.{raw_numbers}
+use Rattle.gc_heap.specs.Raws.{numbers_reply, raw_numbers}
 use Rattle.gc_model.specs.State.{State}
 use Rattle.gc_model.specs.Steps.{mutate}
 use Rattle.gc_collected.specs.Giving.{gives_step}
 use Rattle.gc_collected.specs.declared.giving.FieldValue.TheVariants.{Number}
 
-abbrev pub is_number_word : ℕ → Bool
-is_number_word w = nat_lt w (2 ^ 63)
-
 -- the fields from i on take these numbers: for each number a `Num` of t and a `Put` of t, in order
 abbrev pub numbers_step : State → ℕ → SlotName → SlotName → ℕ → List ℕ → State
 numbers_step old m s t i [] = old
 numbers_step old m s t i (n ∷ rest) = numbers_step (mutate (mutate old m (Num t n)).1 m (Put s i t)).1 m s t (suc i) rest
-
--- the reply: whether there is a raw object, it has the fields, and all words are numbers
-abbrev pub numbers_reply : ℕ → List ℕ → Option (List ℕ) → Reply
-numbers_reply first words None = NoObject
-numbers_reply first words (Some fields) =
-    if nat_le (first + length words) (length fields) then (if list_all is_number_word words then Done else NoNumber) else NoField
 
 -- the state after a call that writes all or nothing: only the reply `Done` changes it
 abbrev pub after_reply : Reply → State → State → State

@@ -2,12 +2,10 @@
 //! the monitor at hand; the monitor may be absent. Those whose names end in `_in` serve a heap with or without an open collection. None of them
 //! can fail: where one needs room in a log, `reserve_in` makes it.
 
-ghost use Rattle.std.specs.Prelude.{ℕ, ◌≡◌, ◌≢◌, ◌<◌, ◌≤◌, ◌+◌, ◌^◌, length, IfSome, IsSome, IsTrue, OnOk, OnErr, None, is_some};
+ghost use Rattle.std.specs.Prelude.{ℕ, ◌≡◌, ◌≢◌, ◌<◌, ◌≤◌, ◌+◌, length, IfSome, IsSome, IsFalse, IsTrue, OnOk, OnErr, None, is_some};
 ghost use Rattle.std.specs.Option.{option_map};
-ghost use Rattle.std.specs.List.{All};
 ghost use Rattle.gc_graph.specs.Slots.{place};
 ghost use Rattle.gc_graph.specs.declared.command.Op.{Op};
-ghost use Rattle.gc_heap.specs.Filling.{TakesNumbers};
 ghost use Rattle.gc_heap.specs.Places.{root_at};
 ghost use Rattle.gc_words.specs.Image.{is_start};
 ghost use Rattle.gc_heap.specs.Heap.{HeapWords, IsHeap, graph_in};
@@ -17,16 +15,17 @@ ghost use Rattle.gc_model.specs.declared.step.StepReply.{StepReply};
 ghost use Rattle.gc_model.specs.Belonging.{IsSpaceGraph, IsOpened};
 ghost use Rattle.gc_copy.specs.StepRuns.{IsScanRun, IsApplyRun};
 ghost use Rattle.gc_copy.specs.Words.{collection_in, open_state, spare_of, BelongsTo};
+ghost use Rattle.gc_monitor.specs.Claims.{CanWriteRow};
+ghost use Rattle.gc_monitor.specs.Events.{WroteRow};
 ghost use Rattle.gc_collected.specs.Internal.Beside.{AreOld, replica_words};
 ghost use Rattle.gc_collected.specs.Internal.Follows.{Follows};
 ghost use Rattle.gc_collected.specs.Internal.Together.{Logs, LogsIfOpen, fields_from};
-ghost use Rattle.gc_collected.specs.Writing.{numbers_step};
 ghost use Rattle.gc_collected.specs.Internal.CollectedHeap.{BelongsIfOpen, Fits, HasSpare, state_in};
 
 use gc_copy::{
     Collection, MissingRoot, StepReply, StepRun, heaps_have_addresses_as_names, images_show_links,
 };
-use gc_graph::{NoMemory, Reply, Slot};
+use gc_graph::{NoMemory, Reply};
 use gc_heap::Heap;
 use gc_monitor::Monitor;
 use gc_words::OldAddr;
@@ -78,42 +77,6 @@ pub(crate) fn put_root(
     are_shown(heap, collection);
     watch.written(heap.space().words(), entry.object.0, entry.field);
     reply
-}
-
-/// Writes the numbers to the object in `s`, which has `count` fields, as a `Num` of `t` and a `Put` of `t` for each of them do. Each field is
-/// logged, and the monitor is told of all of them at once. Needs room in the log.
-pub(crate) fn fill_numbers(
-    collection: &mut Collection,
-    heap: &mut Heap,
-    watch: &mut Monitor,
-    m: u8,
-    s: Slot,
-    object: OldAddr,
-    count: u16,
-    first: u16,
-    t: Slot,
-    numbers: &[u64],
-)
-    requires belongs { BelongsTo heap.old collection.old }
-    requires mutator { m < heap.old.mutators }
-    requires apart { place t m ≢ place s m }
-    requires takes { TakesNumbers heap.old (place s m) object.0 count }
-    requires fields { first + length numbers.now ≤ count }
-    requires numbers { All (λ n. n < 2 ^ 63) numbers.now }
-    requires room { length numbers.now ≤ spare_of collection.old m }
-    ensures step { numbers_step (open_state heap.old collection.old) m s t first numbers.now
-        ≡ open_state heap.new collection.new }
-    ensures belongs { BelongsTo heap.new collection.new }
-    ensures mutators { heap.new.mutators ≡ heap.old.mutators }
-    ensures follows { Follows (open_state heap.old collection.old) watch.old → Follows (open_state heap.new collection.new) watch.new }
-{
-    are_shown(heap, collection);
-    heap.fill_numbers(m, s, object, first, t, numbers);
-    for k in 0..numbers.len() {
-        collection.note(m, object, first + k as u16);
-    }
-    are_shown(heap, collection);
-    watch.written_row(heap.space().words(), object.0, first, numbers.len());
 }
 
 /// Replicates the target of the first root whose target has no replica, as `Collection::replicate_root` does. The monitor is told of the replica.
@@ -347,9 +310,32 @@ pub(crate) fn note_in(
     }
 }
 
-/// Logs so many fields of this object, from field `first` on. Needs room in the log.
+/// Logs so many fields of this object that were written, from field `first` on, and tells the monitor of all of them at once. Needs room in the log.
 #[inline(never)]
-pub(crate) fn note_row(collection: &mut Collection, m: u8, object: OldAddr, first: u16, count: u16)
+pub(crate) fn log_row(
+    collection: &mut Collection,
+    heap: &Heap,
+    watch: &mut Monitor,
+    m: u8,
+    object: OldAddr,
+    first: u16,
+    count: u16,
+)
+    requires log { m < length collection.old.logs }
+    requires fields { first + count ≤ 65535 }
+    requires room { count ≤ spare_of collection.old m }
+    ensures logs { Logs collection.old m (fields_from object.0 first count) collection.new }
+    ensures spare { spare_of collection.old m ≤ spare_of collection.new m + count }
+    ensures wrote { IsFalse watch.new.lost → WroteRow object.0 first count watch.old watch.new }
+    ensures stays { IsFalse watch.old.lost → CanWriteRow heap.now.space.words object.0 first count watch.old → IsFalse watch.new.lost }
+{
+    note_row(collection, m, object, first, count);
+    watch.written_row(heap.space().words(), object.0, first, usize::from(count));
+}
+
+// Logs so many fields of this object, from field `first` on. Needs room in the log.
+#[inline(always)]
+fn note_row(collection: &mut Collection, m: u8, object: OldAddr, first: u16, count: u16)
     requires log { m < length collection.old.logs }
     requires fields { first + count ≤ 65535 }
     requires room { count ≤ spare_of collection.old m }

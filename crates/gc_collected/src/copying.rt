@@ -11,16 +11,15 @@ ghost use Rattle.gc_words.specs.Closed.{IsFieldWord};
 ghost use Rattle.gc_words.specs.Image.{header_at, object_of_block};
 ghost use Rattle.gc_words.specs.declared.header.Header.{Header};
 ghost use Rattle.gc_graph.specs.declared.reply.Reply.{Reply};
-ghost use Rattle.gc_heap.specs.Filling.{PutsValue};
+ghost use Rattle.gc_heap.specs.Filling.{PutsAll, PutsValue};
 ghost use Rattle.gc_heap.specs.Heap.{graph_in};
 ghost use Rattle.gc_heap.specs.Places.{root_at};
-ghost use Rattle.gc_collected.specs.Internal.Given.{CopiesAll, PutsAll, puts_step, same_from};
+ghost use Rattle.gc_collected.specs.Internal.Given.{CopiesAll, puts_step, same_from};
 ghost use Rattle.gc_collected.specs.Internal.Follows.{Follows};
-ghost use Rattle.gc_collected.specs.Internal.Together.{fields_from};
 ghost use Rattle.gc_collected.specs.Internal.CollectedHeap.{BelongsIfOpen, Fits, HasSpare, state_in};
 ghost use Rattle.gc_collected.specs.Copying.{object_in, copy_reply as reply_in, copy_fields_step, copy_values_step, fill_fields_step, fill_reply as fill_reply_in, fills_step, value_in, values_step};
 
-use crate::barrier::{are_shown, are_sound_in, note_row, reserve_in};
+use crate::barrier::{are_shown, are_sound_in, log_row, reserve_in};
 use crate::collected_heap::CollectedHeap;
 use gc_copy::Collection;
 use gc_graph::{NoMemory, Reply, Slot};
@@ -314,9 +313,8 @@ pub(crate) fn put_words(
     let Some(collection) = collection else {
         return;
     };
-    note_row(collection, m, object, from, count);
+    log_row(collection, heap, watch, m, object, from, count);
     are_shown(heap, collection);
-    watch.written_row(heap.space().words(), object.0, from, usize::from(count));
 }
 
 // Writes this word to so many fields of the object in root `s`, in the heap alone.
@@ -376,9 +374,8 @@ fn copy_values(
     let Some(collection) = collection else {
         return;
     };
-    note_row(collection, m, target, to, count);
+    log_row(collection, heap, watch, m, target, to, count);
     are_shown(heap, collection);
-    watch.written_row(heap.space().words(), target.0, to, usize::from(count));
 }
 
 // Copies the fields in the heap alone, where the object in root `d` takes them.

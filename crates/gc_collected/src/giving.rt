@@ -1,9 +1,10 @@
 //! Makes objects whose fields take numbers and the values of roots. No root takes a number for that.
 
-ghost use Rattle.std.specs.Prelude.{ℕ, ◌≡◌, ◌≢◌, ◌<◌, ◌≤◌, ◌+◌, ◌++◌, Some, List, length, get_or, is_some, IfOk, IfSome, OnErr, IsSome, IsFalse};
+ghost use Rattle.std.specs.Prelude.{ℕ, ◌≡◌, ◌<◌, ◌≤◌, ◌+◌, Some, List, length, get_or, is_some, IfOk, IfSome, OnErr, IsSome, IsFalse};
 ghost use Rattle.gc_graph.specs.Graph.{Ref, Value, root};
 ghost use Rattle.gc_graph.specs.declared.reply.Reply.{Reply};
-ghost use Rattle.gc_heap.specs.Heap.{HeapWords, graph_in};
+ghost use Rattle.gc_heap.specs.Heap.{graph_in};
+ghost use Rattle.gc_heap.specs.Filling.{PutsAll};
 ghost use Rattle.gc_words.specs.Image.{header_at};
 ghost use Rattle.gc_copy.specs.Words.{spare_of};
 ghost use Rattle.gc_roots.specs.Twins.{AsksForLook};
@@ -11,7 +12,7 @@ ghost use Rattle.gc_collected.specs.Giving.{IsGiven, new_given_step};
 ghost use Rattle.gc_collected.specs.declared.giving.FieldValue.{FieldValue};
 ghost use Rattle.gc_collected.specs.Internal.CollectedHeap.{BelongsIfOpen, Fits, HasSpare, state_in};
 ghost use Rattle.gc_collected.specs.Internal.Follows.{Follows};
-ghost use Rattle.gc_collected.specs.Internal.Given.{PutsAll, field_given, fields_given, given_at, given_from};
+ghost use Rattle.gc_collected.specs.Internal.Given.{field_given, fields_given, given_at, given_from};
 ghost use Rattle.gc_collected.specs.Internal.Together.{Logs, LogsIfOpen};
 
 use crate::barrier::{are_sound_in, reserve_in};

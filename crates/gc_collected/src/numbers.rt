@@ -6,29 +6,28 @@ ghost use Rattle.std.specs.Option.{option_map};
 ghost use Rattle.gc_graph.specs.Graph.{Ref, root};
 ghost use Rattle.gc_graph.specs.declared.command.Op.{Op};
 ghost use Rattle.gc_graph.specs.declared.reply.Reply.{Reply};
-ghost use Rattle.gc_heap.specs.Heap.{HeapWords, graph_in};
+ghost use Rattle.gc_heap.specs.Heap.{graph_in};
+ghost use Rattle.gc_heap.specs.Filling.{PutsAll, numbered};
 ghost use Rattle.gc_heap.specs.Places.{root_at};
-ghost use Rattle.gc_heap.specs.Raws.{raw_numbers};
+ghost use Rattle.gc_heap.specs.Raws.{is_number_word, raw_numbers};
 ghost use Rattle.gc_words.specs.Image.{header_at};
 ghost use Rattle.gc_words.specs.Space.{end_of};
 ghost use Rattle.gc_model.specs.State.{heap_end};
 ghost use Rattle.gc_model.specs.Steps.{mutate};
 ghost use Rattle.gc_roots.specs.Twins.{AsksForLook};
 ghost use Rattle.gc_collected.specs.Numbers.{new_numbers_step};
-ghost use Rattle.gc_collected.specs.Writing.{is_number_word, put_root_numbers_step};
+ghost use Rattle.gc_collected.specs.Writing.{put_root_numbers_step};
 ghost use Rattle.gc_collected.specs.Internal.CollectedHeap.{BelongsIfOpen, Fits, HasSpare, state_in};
 ghost use Rattle.gc_collected.specs.Internal.Follows.{Follows};
-ghost use Rattle.gc_collected.specs.Internal.Given.{PutsAll};
-ghost use Rattle.gc_collected.specs.Internal.Numbered.{AreApart, IsNewRaw, Sources, numbered, numbers_given, sources_at};
+ghost use Rattle.gc_collected.specs.Internal.Numbered.{AreApart, IsNewRaw, Sources, numbers_given, sources_at};
 
-use crate::barrier::{are_shown, are_sound_in, note_row, reserve_in};
+use crate::barrier::{are_shown, are_sound_in, log_row, reserve_in};
 use crate::collected_heap::CollectedHeap;
 use crate::copying::{Found, object};
 use crate::places::has_made;
-use crate::writing::are_numbers;
 use gc_copy::{Collection, heaps_have_addresses_as_names};
 use gc_graph::{NoMemory, Reply, root_count};
-use gc_heap::Heap;
+use gc_heap::{Heap, are_numbers};
 use gc_monitor::Monitor;
 use gc_words::{Header, OldAddr};
 
@@ -53,6 +52,25 @@ pub(crate) trait NumberRow {
         requires inside { i < length (numbers self.now (sources_at (graph_in heap.now) (names self.now))) }
         ensures number { result ≡ get_or (numbers self.now (sources_at (graph_in heap.now) (names self.now))) i 0 }
         ensures small { result < 2 ^ 63 };
+
+    /// Writes the numbers to the fields, from field `first` on, of the raw object in root `s`, which has this address and this header, in the heap alone.
+    #[inline(always)]
+    fn write(&self, heap: &mut Heap, s: u32, object: OldAddr, header: Header, first: u16)
+        requires target { root (graph_in heap.old) s ≡ Ref object.0 }
+        requires header { header_at heap.old.space.words object.0 ≡ Some header }
+        requires raw { IsTrue header.raw }
+        requires row { is_row self.now (sources_at (graph_in heap.old) (names self.now)) }
+        requires apart { AreApart (names self.now) object.0 }
+        requires fields { first + length (numbers self.now (sources_at (graph_in heap.old) (names self.now))) ≤ header.len }
+        ensures puts { PutsAll heap.old s (numbered first (numbers self.now (sources_at (graph_in heap.old) (names self.now)))) heap.new }
+        ensures roots { heap.new.roots ≡ heap.old.roots }
+        ensures header { header_at heap.new.space.words object.0 ≡ Some header }
+    {
+        for k in 0..self.count() {
+            let number = self.number(heap, k);
+            heap.put_word(s, object, header, first + k, number);
+        }
+    }
 }
 
 impl CollectedHeap {
@@ -73,6 +91,7 @@ impl CollectedHeap {
     /// number, in rising order, so no root changes. Returns `Done`. Or nothing is changed, and the reply is `NoObject` where root `s` refers to no raw object,
     /// `NoField` where the object has too few fields, or `NoNumber` where one of the words is no number. While a collection is open, each field is logged (the
     /// write barrier). Only then can the call return `NoMemory`, and the heap is unchanged.
+    #[inline(always)]
     pub fn put_root_numbers(
         &mut self,
         m: u8,
@@ -179,6 +198,11 @@ impl NumberRow for Numbers<'_> {
     #[inline(always)]
     fn number(&self, heap: &Heap, i: u16) -> u64 {
         self.words[usize::from(i)]
+    }
+
+    #[inline(always)]
+    fn write(&self, heap: &mut Heap, s: u32, object: OldAddr, header: Header, first: u16) {
+        heap.put_numbers(s, object, header, first, self.words);
     }
 }
 
@@ -304,38 +328,11 @@ pub(crate) fn write_numbers<R: NumberRow>(
     are_sound_in(collection, heap);
     // Here the prover learns that the heap is sound.
     let _ = heap.space();
-    write_each(heap, s, object, header, first, row);
+    row.write(heap, s, object, header, first);
     let Some(collection) = collection else {
         return;
     };
     let count = row.count();
-    note_row(collection, m, object, first, count);
+    log_row(collection, heap, watch, m, object, first, count);
     are_shown(heap, collection);
-    watch.written_row(heap.space().words(), object.0, first, usize::from(count));
-}
-
-// Writes the numbers in the heap alone.
-#[inline(always)]
-fn write_each<R: NumberRow>(
-    heap: &mut Heap,
-    s: u32,
-    object: OldAddr,
-    header: Header,
-    first: u16,
-    row: &R,
-)
-    requires target { root (graph_in heap.old) s ≡ Ref object.0 }
-    requires header { header_at heap.old.space.words object.0 ≡ Some header }
-    requires raw { IsTrue header.raw }
-    requires row { R.is_row row.now (sources_at (graph_in heap.old) (R.names row.now)) }
-    requires apart { AreApart (R.names row.now) object.0 }
-    requires fields { first + length (R.numbers row.now (sources_at (graph_in heap.old) (R.names row.now))) ≤ header.len }
-    ensures puts { PutsAll heap.old s (numbered first (R.numbers row.now (sources_at (graph_in heap.old) (R.names row.now)))) heap.new }
-    ensures roots { heap.new.roots ≡ heap.old.roots }
-    ensures header { header_at heap.new.space.words object.0 ≡ Some header }
-{
-    for k in 0..row.count() {
-        let number = row.number(heap, k);
-        heap.put_word(s, object, header, first + k, number);
-    }
 }

@@ -68,7 +68,7 @@ impl CollectedHeap {
         requires { m < self.now.core.mutators }
         ensures { option_map (λ numbers. numbers.now) result ≡ raw_numbers self.now.core.heap.graph slot m }
     {
-        self.heap.raw_numbers(m, slot)
+        self.raw_numbers_root(self.place(m, slot))
     }
 
     /// Returns the address of the object that mutator `m`'s slot refers to, or `None` if it refers to none. A flip gives objects
@@ -77,7 +77,7 @@ impl CollectedHeap {
         requires { m < self.now.core.mutators }
         ensures { option_map (λ a. a.0) result ≡ name_of (root self.now.core.heap.graph (place slot m)) }
     {
-        self.heap.target(m, slot)
+        self.address_root(self.place(m, slot))
     }
 
     /// Returns the address of the object that root `s` refers to, as `address` does.

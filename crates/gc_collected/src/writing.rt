@@ -1,14 +1,11 @@
 //! Writes numbers to a raw object.
 
-ghost use Rattle.std.specs.Prelude.{◌≡◌, ◌≢◌, ◌<◌, ◌≤◌, ◌+◌, length, IfOk, OnErr, IsSome};
-ghost use Rattle.std.specs.List.{list_all};
+ghost use Rattle.std.specs.Prelude.{◌≡◌, ◌≢◌, ◌<◌, IfOk, OnErr, IsSome};
 ghost use Rattle.gc_graph.specs.Slots.{place};
-ghost use Rattle.gc_collected.specs.Writing.{is_number_word, put_numbers_step};
+ghost use Rattle.gc_collected.specs.Writing.{put_numbers_step};
 
-use crate::barrier;
 use crate::collected_heap::CollectedHeap;
-use gc_copy::commands_leave_collections;
-use gc_graph::{NoMemory, Reply, Slot};
+use gc_graph::{NoMemory, Number, Reply, Slot};
 
 impl CollectedHeap {
     /// Writes these numbers to the fields of the raw object that `s` refers to, from field `first` on. For each number this is a `num`
@@ -32,48 +29,18 @@ impl CollectedHeap {
         ensures mutators { self.new.core.mutators ≡ self.old.core.mutators }
         ensures beside { self.new.beside ≡ self.old.beside }
     {
-        commands_leave_collections();
-        // Here the prover learns that the heap is sound, and the slot in range.
-        let _ = self.heap.space();
+        // Here the prover learns how many roots there are, and that the slot is in range.
+        let _ = self.root_places();
         let _ = t.index();
-        let Some((object, count)) = self.heap.raw_object(m, s) else {
-            return Ok(Reply::NoObject);
+        let reply = self.put_root_numbers(m, s.place(m) as u32, u32::from(first), words)?;
+        let Reply::Done = reply else {
+            return Ok(reply);
         };
-        if usize::from(first) + words.len() > usize::from(count) {
-            return Ok(Reply::NoField);
+        if words.len() == 0 {
+            return Ok(reply);
         }
-        if !are_numbers(words) {
-            return Ok(Reply::NoNumber);
-        }
-        let Some(collection) = &mut self.collection else {
-            self.heap.fill_numbers(m, s, object, first, t, words);
-            return Ok(Reply::Done);
-        };
-        collection.reserve_more(m, words.len())?;
-        barrier::fill_numbers(
-            collection,
-            &mut self.heap,
-            &mut self.watch,
-            m,
-            s,
-            object,
-            count,
-            first,
-            t,
-            words,
-        );
-        Ok(Reply::Done)
+        let last = Number::new(words[words.len() - 1]).unwrap();
+        let _done = self.num(m, t, last);
+        Ok(reply)
     }
-}
-
-/// Returns whether all words are numbers.
-pub(crate) fn are_numbers(words: &[u64]) -> bool
-    ensures { result ≡ list_all is_number_word words.now }
-{
-    // A loop without a branch for each word, which the compiler turns into vector code.
-    let mut so_far = true;
-    for k in 0..words.len() {
-        so_far &= words[k] < 1 << 63;
-    }
-    so_far
 }

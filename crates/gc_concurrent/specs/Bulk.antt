@@ -1,5 +1,5 @@
 -- Calls that perform many commands: which ones, in which order, and what such a call replies.
-use Rattle.std.specs.Prelude.{◌≡◌, ◌⊎◌, ℕ, zero, suc, ◌+◌, ◌-◌, ◌^◌, nat_le, nat_lt, Bool, ◌||◌, not, if◌then◌else◌, List, [], ◌∷◌, length, map, take, drop, Option, Some, None}
+use Rattle.std.specs.Prelude.{◌≡◌, ◌⊎◌, ℕ, zero, suc, ◌+◌, ◌-◌, nat_le, ◌||◌, not, if◌then◌else◌, List, [], ◌∷◌, length, map, take, drop, Option, Some, None}
 use Rattle.std.specs.List.{list_all}
 use Rattle.std.specs.Option.{unwrap_or}
 use Rattle.gc_graph.specs.Graph.{Value, Nil, Num, Object, Graph, field_of, object_of, root}
@@ -10,7 +10,7 @@ use Rattle.gc_graph.specs.declared.reply.Reply.{Reply}
 use Rattle.gc_graph.specs.declared.reply.Reply.TheVariants.{Done, Full, Made, NoObject, NoField, NoNumber}
 use Rattle.gc_heap.specs.Heap.{HeapWords, IsHeap, graph_in}
 use Rattle.gc_heap.specs.Places.{root_at}
-use Rattle.gc_heap.specs.Raws.{numbers_in}
+use Rattle.gc_heap.specs.Raws.{numbers_in, numbers_reply}
 use Rattle.gc_concurrent.specs.Law.{HasNoFull}
 use Rattle.gc_concurrent.specs.Machines.{Does, DoesAll, PutsValue}
 
@@ -95,19 +95,10 @@ abbrev pub PutsEach : ℕ → ℕ → List Value → HeapWords → HeapWords →
 PutsEach s i [] old new = new ≡ old
 PutsEach s i (v ∷ rest) old new = (mid : HeapWords) × (reply : Reply) × IsHeap mid × PutsValue s i v old reply mid × PutsEach s (suc i) rest mid new
 
-abbrev pub is_number_word : ℕ → Bool
-is_number_word w = nat_lt w (2 ^ 63)
-
--- whether there is a raw object with so many fields from `first` on, and all words are numbers
-abbrev pub numbers_told : ℕ → List ℕ → Option (List ℕ) → Reply
-numbers_told first words None = NoObject
-numbers_told first words (Some fields) =
-    if nat_le (first + length words) (length fields) then (if list_all is_number_word words then Done else NoNumber) else NoField
-
 -- these numbers go into the fields from `first` on of the raw object in the root at place s, or none does
 abbrev pub WritesNumbers : ℕ → ℕ → List ℕ → HeapWords → Reply → HeapWords → Type 0
 WritesNumbers s first words old reply new =
-    (reply ≡ numbers_told first words (numbers_in (object_of_root old s))) × AllOrNothing (PutsEach s first (map Num words)) old reply new
+    (reply ≡ numbers_reply first words (numbers_in (object_of_root old s))) × AllOrNothing (PutsEach s first (map Num words)) old reply new
 
 -- What was read of the numbers in a raw object, from field `first` on: as many as the old list has, or else none.
 abbrev pub ReadsNumbers : ℕ → Option (List ℕ) → List ℕ → Reply → List ℕ → Type 0

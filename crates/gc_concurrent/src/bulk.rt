@@ -1,21 +1,20 @@
 //! Commands in bulk. Each call performs many of gc_graph's commands, on roots by their places.
-ghost use Rattle.std.specs.Prelude.{◌≡◌, ℕ, suc, List, true, None, ◌+◌, ◌-◌, ◌^◌, ◌<◌, ◌≤◌, ◌↔◌, length, map, take, drop, IfOk, IfNone, IfSome, OnErr, IsTrue};
+ghost use Rattle.std.specs.Prelude.{◌≡◌, ℕ, suc, true, None, ◌+◌, ◌-◌, ◌^◌, ◌<◌, ◌≤◌, ◌↔◌, length, map, take, drop, IfOk, IfNone, IfSome, OnErr, IsTrue};
 ghost use Rattle.std.specs.List.{AllByRecursion, list_all};
-ghost use Rattle.gc_graph.specs.Graph.{Num, Object, fields_of, root, number_of as number_meant};
+ghost use Rattle.gc_graph.specs.Graph.{Num, fields_of, root, number_of as number_meant};
 ghost use Rattle.gc_graph.specs.Machine.{is_number};
 ghost use Rattle.gc_graph.specs.declared.reply.Reply.{Reply};
 ghost use Rattle.gc_heap.specs.Heap.{graph_in};
-ghost use Rattle.gc_heap.specs.Raws.{numbers_in};
-ghost use Rattle.gc_words.specs.Word.{value_of};
-ghost use Rattle.gc_words.specs.Closed.{IsRootWord};
+ghost use Rattle.gc_heap.specs.Raws.{is_number_word, numbers_in};
 ghost use Rattle.gc_concurrent.specs.Holders.{beginning_of, cells_of, heap_in, log_length, logs_writes, moves_in};
 ghost use Rattle.gc_concurrent.specs.Internal.LogRoom.{HasLogRoom};
 ghost use Rattle.gc_concurrent.specs.Internal.Shapes.{FitsHeader, row_told};
 ghost use Rattle.gc_concurrent.specs.Machines.{PutsValue};
-ghost use Rattle.gc_concurrent.specs.Bulk.{clear_commands, fill_commands, get_commands, put_commands, places_from, is_number_word, object_of_root, value_in, CopiesEach, CopiesFields, FillsFields, MakesFrom, Peeks, PerformsEach, PutsEach, ReadsNumbers, Spreads, WritesNumbers};
+ghost use Rattle.gc_concurrent.specs.Bulk.{clear_commands, fill_commands, get_commands, put_commands, places_from, object_of_root, value_in, CopiesEach, CopiesFields, FillsFields, MakesFrom, Peeks, PerformsEach, PutsEach, ReadsNumbers, Spreads, WritesNumbers};
 
 use crate::commands::{Commander, number_of};
 use gc_graph::{NoMemory, Reply};
+use gc_heap::are_numbers;
 use gc_words::{Header, Value, encode, target_of};
 
 // Returns whether an object with this header has so many fields, from field `first` on.
@@ -40,18 +39,6 @@ fn row_reply(object: Option<Header>, first: u32, count: usize) -> Reply
         }
         _ => Reply::NoObject,
     }
-}
-
-// Returns whether all of these are numbers.
-fn are_numbers(words: &[u64]) -> bool
-    ensures { result ≡ list_all is_number_word words.now }
-{
-    for k in 0..words.len() {
-        if words[k] >= 1 << 63 {
-            return false;
-        }
-    }
-    true
 }
 
 /// Each takes places of roots, which have to be below `count_roots`: 0 to 31 are the slots, and the extra roots follow. A call that writes fields logs each of

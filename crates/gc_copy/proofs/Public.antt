@@ -1,7 +1,7 @@
 -- What other crates cite of this crate's proofs and internal definitions, passed on from one place. Declares nothing.
 pub use Rattle.gc_copy.proofs.Flipping.{HasObjectsOf, flip_is, flipped_sound}
 pub use Rattle.gc_copy.proofs.LinkedImages.{command_leaves, links_kept, lowered_words, new_shown, nothing_linked, other_links}
-pub use Rattle.gc_copy.proofs.Mutating.{idle_left, mutate_is, one_but, open_left, still_unlinked}
+pub use Rattle.gc_copy.proofs.Mutating.{idle_left, open_left, still_unlinked}
 pub use Rattle.gc_copy.proofs.OpenCollection.{link_above, opened, replica_object}
 pub use Rattle.gc_copy.proofs.Opening.{opening_with_ok}
 pub use Rattle.gc_copy.proofs.RootWalks.{all_moved, moved_first, moved_to, value_at}

@@ -44,7 +44,7 @@ new_takes h p header heap can inside plain =
       target = at_root (with_new h p header) p w (sym (get_or-set_same h.roots p w 0 inside)) ∙ meaning w (Ref (end_of h.space)) (value_read_back (Ref (end_of h.space)) (low, omega arith));
     }
 
-pub some_at : (xs : List ℕ) (i : ℕ) → i < length xs → IsSome (slice_get xs i)
+some_at : (xs : List ℕ) (i : ℕ) → i < length xs → IsSome (slice_get xs i)
 some_at xs i less = ap is_some (get_index xs i less)
 
 -- what a write of root t's word to a field of that object leaves

@@ -4,7 +4,7 @@ mod filling;
 mod places;
 
 use crate::options::HeapOptions;
-use crate::reading::{field_word, has_field, raw_fields, root_word};
+use crate::reading::{field_word, has_field, root_word};
 use crate::taken::Taken;
 use gc_graph::{NoMemory, Op, Reply, Slot, root_count};
 use gc_words::{Addr, Header, ImageRef, NewAddr, OldAddr, Space, Value, encode, target_of};
@@ -46,11 +46,10 @@ impl Model for Heap {
 }
 
 impl Heap {
-    ghost use Rattle.std.specs.Prelude.{◌≡◌, ◌≢◌, ◌<◌, ◌≤◌, IfOk, IfSome, IsTrue, IsFalse, length, slice_set, if◌then◌else◌};
-    ghost use Rattle.std.specs.Option.{option_map};
+    ghost use Rattle.std.specs.Prelude.{◌≡◌, ◌≢◌, ◌<◌, ◌≤◌, IfOk, IsTrue, IsFalse, length, slice_set, if◌then◌else◌};
     ghost use Rattle.gc_graph.specs.Limits.{most_mutators};
     ghost use Rattle.gc_graph.specs.Slots.{place as place_of};
-    ghost use Rattle.gc_graph.specs.Graph.{name_of, object_of, field_of, root};
+    ghost use Rattle.gc_graph.specs.Graph.{object_of, field_of, root};
     ghost use Rattle.gc_graph.specs.Machine.{roomy_step, opening_roomy, get_field, put_field, same as same_in};
     ghost use Rattle.gc_graph.proofs.Public.{make_object};
     ghost use Rattle.gc_words.specs.Image.{is_start};
@@ -62,8 +61,7 @@ impl Heap {
     ghost use Rattle.gc_heap.specs.Commands.{Performs};
     ghost use Rattle.gc_heap.specs.Heap.{IsHeap, KeepsLinks, empty_heap, image_of, graph_in, roomy_in, extra_roots_in};
     ghost use Rattle.gc_heap.specs.ExtraRoots.{CanOpen, opening_with};
-    ghost use Rattle.gc_heap.specs.Filling.{TakesFields, TakesNumbers};
-    ghost use Rattle.gc_heap.specs.Raws.{raw_numbers};
+    ghost use Rattle.gc_heap.specs.Filling.{TakesFields};
 
     /// Returns a heap without objects whose roots are all nil. It has `size` words, at least 1, and 1 to
     /// `MOST_MUTATORS` mutators. It has no extra roots.
@@ -147,46 +145,6 @@ impl Heap {
         ensures sound { IsHeap self.now }
     {
         (self.roots.len() - root_count(self.mutators)) as u32
-    }
-
-    /// Returns the object that a slot of mutator `m` refers to.
-    pub fn target(&self, m: u8, slot: Slot) -> Option<OldAddr>
-        requires { m < self.now.mutators }
-        ensures name { option_map (λ a. a.0) result ≡ name_of (root (graph_in self.now) (place_of slot m)) }
-        ensures start { IfSome result (λ a. IsTrue (is_start self.now.space.words a.0)) }
-        ensures sound { IsHeap self.now }
-    {
-        let at = target_of(self.roots[slot.place(m)])?;
-        Some(OldAddr(at.0))
-    }
-
-    /// Returns the numbers in the fields of the raw object that a slot of mutator `m` refers to, or `None` if it refers to no
-    /// raw object.
-    pub fn raw_numbers(&self, m: u8, slot: Slot) -> Option<&[u64]>
-        requires { m < self.now.mutators }
-        ensures { option_map (λ numbers. numbers.now) result ≡ raw_numbers (graph_in self.now) slot m }
-    {
-        let target = self.roots[slot.place(m)];
-        let Some(at) = target_of(target) else {
-            return None;
-        };
-        raw_fields(&self.space, at)
-    }
-
-    /// Returns the raw object that a slot of mutator `m` refers to, and the number of its fields, or `None` if it refers to no raw
-    /// object.
-    pub fn raw_object(&self, m: u8, slot: Slot) -> Option<(OldAddr, u16)>
-        requires { m < self.now.mutators }
-        ensures count { option_map (λ found. found.1) result ≡ option_map length (raw_numbers (graph_in self.now) slot m) }
-        ensures takes { IfSome result (λ found. TakesNumbers self.now (place_of slot m) found.0.0 found.1) }
-        ensures sound { IsHeap self.now }
-    {
-        let at = target_of(self.roots[slot.place(m)])?;
-        let header = self.space.header(at);
-        if !header.is_raw() {
-            return None;
-        }
-        Some((OldAddr(at.0), header.len()))
     }
 
     /// Performs a command of mutator `m`. Does not allocate.

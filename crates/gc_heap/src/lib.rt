@@ -8,5 +8,5 @@ mod taken;
 
 pub use heap::Heap;
 pub use options::{HeapOptions, MOST_EXTRA_ROOTS};
-pub use reading::{field_word, object_view, root_word, view};
+pub use reading::{are_numbers, field_word, object_view, root_word, view};
 pub use taken::Fetched;

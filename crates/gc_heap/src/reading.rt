@@ -1,13 +1,14 @@
 //! Reads words of a space in which every reference refers to a start.
 
-ghost use Rattle.std.specs.Prelude.{◌≡◌, ◌↔◌, Some, None, IsTrue, IsSome, IfSome, is_none, not, ◌&&◌, ◌<◌, ◌^◌, if◌then◌else◌};
-ghost use Rattle.std.specs.Option.{option_map};
+ghost use Rattle.std.specs.Prelude.{◌≡◌, ◌↔◌, Some, None, IsTrue, IsSome, IfSome, is_none, not, ◌&&◌, ◌<◌, ◌^◌};
+ghost use Rattle.std.specs.List.{list_all};
 ghost use Rattle.gc_graph.specs.Graph.{Num, Ref};
 ghost use Rattle.gc_graph.specs.Machine.{view_of, is_number};
 ghost use Rattle.gc_graph.specs.declared.reply.Reply.TheVariants.{Saw};
 ghost use Rattle.gc_heap.specs.Commands.{fetched_of};
+ghost use Rattle.gc_heap.specs.Raws.{is_number_word};
 ghost use Rattle.gc_words.specs.Word.{is_value, value_of, field_value};
-ghost use Rattle.gc_words.specs.Image.{Block, block_at, is_start, header_at, field_at, objects_of};
+ghost use Rattle.gc_words.specs.Image.{is_start, header_at, field_at, objects_of};
 ghost use Rattle.gc_words.specs.Space.{IsSpace};
 ghost use Rattle.gc_words.specs.Closed.{IsRootWord, IsFieldWord};
 
@@ -67,19 +68,6 @@ pub fn fetched(space: &Space, word: u64) -> Fetched
     }
 }
 
-/// Returns the field words of the object that starts here, if it is raw.
-pub fn raw_fields(space: &Space, at: Addr) -> Option<&[u64]>
-    requires { IsTrue (is_start space.now.words at.0) }
-    ensures { (b : Block) → block_at space.now.words at.0 ≡ Some b
-        → option_map (λ fields. fields.now) result ≡ (if b.header.raw then Some b.fields else None) }
-{
-    if space.header(at).is_raw() {
-        Some(space.fields(at))
-    } else {
-        None
-    }
-}
-
 /// Converts a field word of an object with this header to the root word of the same value.
 pub fn root_word(space: &Space, header: Header, field: u64) -> u64
     requires { IsFieldWord space.now.words header field }
@@ -119,4 +107,16 @@ fn number_of(word: u64) -> Option<u64>
         Value::Num(n) => Some(n.get()),
         _ => None,
     }
+}
+
+/// Returns whether all words are numbers, as the fields of a raw object are.
+pub fn are_numbers(words: &[u64]) -> bool
+    ensures { result ≡ list_all is_number_word words.now }
+{
+    // A loop without a branch for each word, which the compiler turns into vector code.
+    let mut so_far = true;
+    for k in 0..words.len() {
+        so_far &= words[k] < 1 << 63;
+    }
+    so_far
 }

@@ -7,7 +7,7 @@ pub use Rattle.gc_words.proofs.Fields.{block_of_header, field_past, field_within
 pub use Rattle.gc_words.proofs.Graphs.{field_found, fresh_object, graph_empty, graph_field, graph_link, graph_placed, graph_root, meaning_back, meant, object_found, root_value, value_read_back, word_read_back}
 pub use Rattle.gc_words.proofs.Links.{link_beside_field, link_cleared, link_placed, link_placed_beside, link_written_beside, link_written_there, objects_apart}
 pub use Rattle.gc_words.proofs.MarkBits.{no_mark}
-pub use Rattle.gc_words.proofs.References.{closed_empty, closed_field, closed_field_read, closed_objects, closed_placed, closed_root, closed_root_read, placed_reference, value_refers}
+pub use Rattle.gc_words.proofs.References.{closed_empty, closed_field, closed_field_read, closed_objects, closed_placed, closed_root, closed_root_read, placed_reference}
 pub use Rattle.gc_words.proofs.Spelled.{cleared, laid_out, laid_out_words, length_relinked, link_spelled, relinked, spelled_words, walk_spelled}
 pub use Rattle.gc_words.proofs.Starts.{StandsAt, ok_is, stands, stands_in, walked_blocks}
 pub use Rattle.gc_words.proofs.Steps.{Behind, at_end, behind, has_next, has_start_from, same_fault, step, take_add}

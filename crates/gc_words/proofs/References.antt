@@ -17,7 +17,7 @@ use Rattle.gc_words.proofs.Graphs.{meaning_back}
 
 -- ---- the words of values
 
-pub value_refers : (words : List ℕ) (v : Value) → HasAddress v → RefersToStart words v → IsRootWord words (word_of v)
+value_refers : (words : List ℕ) (v : Value) → HasAddress v → RefersToStart words v → IsRootWord words (word_of v)
 value_refers words v has refers = grind (arith, common_steps, meaning_back)
 
 -- ---- words keep their meaning while starts stay

@@ -1,13 +1,9 @@
 -- Commands in a row that made no object, and what they wrote and logged.
 -- For the theorem that the monitor follows its heap.
 use Rattle.std.proofs.lemmas.Grind.{common_steps}
-use Rattle.std.proofs.Common.{◌≡◌, inl, ⊎_elim, ℕ, zero, suc, ◌<◌, ◌≤◌, List, [], ◌∷◌, ◌++◌, length, map, Option, Some, None, refl, ap, sym, ◌∙◌, subst, arith}
+use Rattle.std.proofs.Common.{◌≡◌, inl, ⊎_elim, ℕ, zero, suc, ◌<◌, ◌≤◌, List, [], ◌∷◌, ◌++◌, length, Option, Some, None, refl, ap, sym, ◌∙◌, subst, arith}
 use Rattle.std.specs.Prelude.{IfSome, slice_get, slice_set}
 use Rattle.std.specs.Option.{unwrap_or}
-use Rattle.gc_graph.specs.Graph.{Ref, names_of, root}
-use Rattle.gc_graph.specs.Slots.{SlotName, place}
-use Rattle.gc_graph.specs.declared.command.Op.TheVariants as ops
-use Rattle.gc_graph.specs.declared.reply.Reply.TheVariants as replies
 use Rattle.gc_graph.specs.Machine.{roomy_step, words_taken}
 use Rattle.gc_graph.specs.declared.command.Op.{Op}
 use Rattle.gc_graph.specs.declared.reply.Reply.{Reply}
@@ -15,7 +11,7 @@ use Rattle.gc_model.specs.State.{Collection, State, heap_end}
 use Rattle.gc_model.specs.Steps.{log_at, logged, mutate, with_log, written}
 use Rattle.gc_model.specs.Members.{In}
 use Rattle.gc_model.specs.Belonging.{IsLogged, IsOpened}
-use Rattle.gc_model.proofs.Public.{WrittenBy, in_right, root_kept, unchanged}
+use Rattle.gc_model.proofs.Public.{WrittenBy, in_right, unchanged}
 use Rattle.gc_collected.proofs.Monitor.CommandsKnown.{Continues, continues_on, continues_one, continues_same}
 use Rattle.gc_collected.proofs.Monitor.Leads.{Leads, end_by, leads_on, leads_one, same_itself}
 
@@ -61,9 +57,6 @@ HasLog (Some c) m = m < length c.logs
 pub log_of_open : (s : State) (m : ℕ) → IfSome s.collection (IsOpened s) → m < s.mutators → HasLog s.collection m
 log_of_open s m is_open less = grind (arith, common_steps)
 
-log_after : (s s' : State) (m n : ℕ) (op : Op) (reply : Reply) → mutate s n op ≡ (reply, s') → HasLog s.collection m → HasLog s'.collection m
-log_after s s' m n op reply said h = grind (arith, common_steps)
-
 log_new : (logs : List (List (ℕ × ℕ))) (m : ℕ) (more : List (ℕ × ℕ)) (e : ℕ × ℕ) → m < length logs → In e more → In e (unwrap_or (slice_get (slice_set logs m (unwrap_or (slice_get logs m) [] ++ more)) m) [])
 log_new [] m more e less l = absurd (omega arith)
 log_new (log ∷ logs) zero more e less l = in_right e log more l
@@ -77,33 +70,3 @@ noted s s' m op reply a i has said w d there = go s.collection has (ap (λ (x : 
     go (Some c) k e =
         let is : with_log c m (log_at c m ++ written s.heap.graph m op (roomy_step s.heap m op (heap_end s)).0) ≡ d = cc e in
         subst (λ (d : Collection). IsLogged d a i) is (m, log_new c.logs m _ (a, i) k (subst (λ (r : Reply). In {X = ℕ × ℕ} (a, i) (written s.heap.graph m op r)) (sym (ap (λ (x : Reply × State). x.0) said)) w))
-
--- what is logged stays logged
-pub carried : (s s' : State) (Written : ℕ → ℕ → Type 0) (a j : ℕ) → Ran s s' Written → ((d : Collection) → s.collection ≡ Some d → IsLogged d a j) → (e : Collection) → s'.collection ≡ Some e → IsLogged e a j
-carried s s' Written a j ran h e there = carried_on s.collection refl s'.collection there ran.on.collection
-  where
-    carried_on : (o : Option Collection) → s.collection ≡ o → (p : Option Collection) → p ≡ Some e → Rattle.gc_collected.proofs.Monitor.CommandsKnown.SameOpen o p → IsLogged e a j
-    carried_on o f p g same = grind (arith, common_steps)
-
--- ---- a number put
-
--- the field of the object in slot d is written and logged
-pub number_ran : (s s' : State) (m i a n : ℕ) (d t : SlotName) → (place t m ≡ place d m → ⊥) → root s.heap.graph (place d m) ≡ Ref a → HasLog s.collection m → mutate (mutate s m (ops.Num t n)).1 m (ops.Put d i t) ≡ (replies.Done, s')
-    → Ran s s' (λ x j. (x ≡ a) × (j ≡ i)) × ((e : Collection) → s'.collection ≡ Some e → IsLogged e a i)
-number_ran s s' m i a n d t apart at has said = (
-  ran_on s one.1 s' (WrittenBy s.heap.graph m (ops.Num t n) one.0) (WrittenBy one.1.heap.graph m (ops.Put d i t) replies.Done) (λ x j. (x ≡ a) × (j ≡ i)) (λ x j w. absurd w) (λ x j w. only x j w)
-      (ran_one s one.1 m (ops.Num t n) one.0 refl refl) (ran_one one.1 s' m (ops.Put d i t) replies.Done said refl),
-  noted one.1 s' m (ops.Put d i t) replies.Done a i (log_after s one.1 m m (ops.Num t n) one.0 refl has) said wrote,
-)
-  where
-    one : Reply × State
-    one = mutate s m (ops.Num t n)
-
-    here : root one.1.heap.graph (place d m) ≡ Ref a
-    here = root_kept s m (ops.Num t n) (place d m) (λ e. apart (let same : place t m ≡ place d m = cc e in same)) ∙ at
-
-    wrote : WrittenBy one.1.heap.graph m (ops.Put d i t) replies.Done a i
-    wrote = subst (λ v. In {X = ℕ × ℕ} (a, i) (map (λ name. (name, i)) (names_of v))) (sym here) (inl refl)
-
-    only : (x j : ℕ) → WrittenBy one.1.heap.graph m (ops.Put d i t) replies.Done x j → (x ≡ a) × (j ≡ i)
-    only x j w = grind (arith, common_steps, here)

@@ -10,11 +10,6 @@ use Rattle.gc_collected.specs.Values.{put_value_step}
 use Rattle.gc_collected.specs.declared.giving.FieldValue.{FieldValue}
 use Rattle.gc_collected.specs.declared.giving.FieldValue.TheVariants as values
 
--- these fields of the object in root p take these values, in order
-abbrev pub PutsAll : HeapWords → ℕ → List (ℕ × Value) → HeapWords → Type 0
-PutsAll old p [] new = old ≡ new
-PutsAll old p (e ∷ rest) new = (next : HeapWords) × PutsValue old p e.0 e.1 next × PutsAll next p rest new
-
 -- the state after mutator m has put these values into these fields of the object in root p
 abbrev pub puts_step : State → ℕ → ℕ → List (ℕ × Value) → State
 puts_step s m p [] = s

@@ -1,14 +1,9 @@
 -- Numbers that the fields of a raw object take, which may be read from two other objects meanwhile.
-use Rattle.std.specs.Prelude.{◌≡◌, ◌≢◌, ℕ, suc, true, List, [], ◌∷◌, length, map, Option, Some}
-use Rattle.gc_graph.specs.Graph.{Graph, Object, Value, Num, Ref, lookup, new_object, object_of, root}
+use Rattle.std.specs.Prelude.{◌≡◌, ◌≢◌, ℕ, true, List, length, map, Option, Some}
+use Rattle.gc_graph.specs.Graph.{Graph, Object, Ref, lookup, new_object, object_of, root}
 use Rattle.gc_model.specs.State.{State}
 use Rattle.gc_collected.specs.Giving.{gives_step}
 use Rattle.gc_collected.specs.declared.giving.FieldValue.TheVariants.{Number}
-
--- field i and the number that it takes, and so on with the next field
-abbrev pub numbered : ℕ → List ℕ → List (ℕ × Value)
-numbered i [] = []
-numbered i (n ∷ rest) = (i, Num n) ∷ numbered (suc i) rest
 
 -- the fields, from field i on, of the object in root p take these numbers
 abbrev pub numbers_given : State → ℕ → ℕ → ℕ → List ℕ → State

@@ -1,10 +1,9 @@
 //! Fills the fields of a new object, and those of a raw one, and writes a field of an object whose header is known.
 
-ghost use Rattle.std.specs.Prelude.{◌≡◌, ◌≢◌, ◌<◌, ◌≤◌, ◌+◌, ◌^◌, ℕ, length, Some};
+ghost use Rattle.std.specs.Prelude.{◌≡◌, ◌<◌, ◌≤◌, ◌+◌, ◌^◌, ℕ, IsTrue, length, Some};
 ghost use Rattle.std.specs.List.{All};
 ghost use Rattle.gc_graph.specs.Graph.{Ref, object_of, field_of, root};
 ghost use Rattle.gc_graph.specs.Machine.{put_field};
-ghost use Rattle.gc_graph.specs.Slots.{place};
 ghost use Rattle.gc_graph.specs.declared.command.Op.{Op};
 ghost use Rattle.gc_heap.specs.Heap.{IsHeap, KeepsLinks, graph_in};
 ghost use Rattle.gc_heap.specs.Commands.{Performs};
@@ -12,11 +11,11 @@ ghost use Rattle.gc_words.specs.Closed.{IsFieldWord};
 ghost use Rattle.gc_words.specs.Image.{header_at};
 ghost use Rattle.gc_words.specs.Word.{field_value};
 ghost use Rattle.gc_words.specs.declared.header.Header.{Header};
-ghost use Rattle.gc_heap.specs.Filling.{PutsValue, TakesFields, TakesNumbers, WritesNumbers};
+ghost use Rattle.gc_heap.specs.Filling.{PutsAll, PutsValue, TakesFields, numbered};
 ghost use Rattle.gc_heap.specs.Places.{root_at};
 
 use super::Heap;
-use gc_graph::{Reply, Slot};
+use gc_graph::Reply;
 use gc_words::{Addr, Header, OldAddr};
 
 impl Heap {
@@ -73,33 +72,29 @@ impl Heap {
         self.space.set_field(Addr(object.0), i, word);
     }
 
-    /// Writes these numbers to the fields of the raw object that `s` refers to, from field `first` on, as a `Num` of `t` and a `Put` of
-    /// `t` for each of them do. The object is known to have these fields, so it is not read. `t` keeps the last number.
-    pub fn fill_numbers(
+    /// Writes these numbers to the fields, from field `first` on, of the raw object that root `p` refers to and that has this header, and reads neither. In
+    /// rising order, this is a `Put` for each number, of a root that holds it, whose reply is `Done`, but no root has to hold the number.
+    #[inline(always)]
+    pub fn put_numbers(
         &mut self,
-        m: u8,
-        s: Slot,
+        p: u32,
         object: OldAddr,
+        header: Header,
         first: u16,
-        t: Slot,
         numbers: &[u64],
     )
-        requires mutator { m < self.old.mutators }
-        requires apart { place t m ≢ place s m }
-        requires fields { (len : ℕ) × TakesNumbers self.old (place s m) object.0 len × (first + length numbers.now ≤ len) }
-        requires few { first + length numbers.now ≤ 65535 }
+        requires target { root (graph_in self.old) p ≡ Ref object.0 }
+        requires header { header_at self.old.space.words object.0 ≡ Some header }
+        requires raw { IsTrue header.raw }
+        requires fields { first + length numbers.now ≤ header.len }
         requires numbers { All (λ n. n < 2 ^ 63) numbers.now }
-        ensures writes { WritesNumbers self.old m s t first numbers.now self.new }
-        ensures fields { (len : ℕ) → TakesNumbers self.old (place s m) object.0 len → TakesNumbers self.new (place s m) object.0 len }
-        ensures mutators { self.new.mutators ≡ self.old.mutators }
+        ensures puts { PutsAll self.old p (numbered first numbers.now) self.new }
+        ensures roots { self.new.roots ≡ self.old.roots }
+        ensures header { header_at self.new.space.words object.0 ≡ Some header }
         ensures sound { IsHeap self.new }
     {
-        // Here the prover learns how many roots there are.
+        // Here the prover learns that the heap is sound.
         let _ = &self.roots;
         self.space.set_fields(Addr(object.0), first, numbers);
-        if numbers.len() > 0 {
-            let last = numbers[numbers.len() - 1];
-            self.roots[t.place(m)] = 2 * last + 1;
-        }
     }
 }

@@ -270,7 +270,7 @@ fn words_of_an_object(rt: HostRuntime) -> Result<(), Fail> {
         (9, 32, 5)
     );
     assert_eq!(rt; heap.roots().get(16).copied(), Some(2));
-    assert_eq!(rt; heap.target(0, r0), Some(OldAddr(1)));
+    assert_eq!(rt; heap.target_root(16), Some(OldAddr(1)));
     Ok(())
 }
 
@@ -278,7 +278,7 @@ fn words_of_an_object(rt: HostRuntime) -> Result<(), Fail> {
 fn links_are_no_matter_of_mutators(rt: HostRuntime) -> Result<(), Fail> {
     let r0 = Slot::own(0).ok_or("slot")?;
     let mut heap = with_an_object(&rt, rt.alloc(), r0)?;
-    let Some(at) = heap.target(0, r0) else {
+    let Some(at) = heap.target_root(16) else {
         return Err("no object".into());
     };
     heap.set_link(at, NewAddr(7));

@@ -4,7 +4,8 @@ use Rattle.gc_words.specs.Closed.{IsFieldWord}
 use Rattle.gc_words.specs.Image.{header_at}
 use Rattle.gc_words.specs.Word.{field_value}
 use Rattle.gc_heap.specs.Heap.{HeapWords}
-use Rattle.gc_collected.specs.Internal.Given.{PutsAll, same_from}
+use Rattle.gc_heap.specs.Filling.{PutsAll}
+use Rattle.gc_collected.specs.Internal.Given.{same_from}
 use Rattle.gc_collected.proofs.copying.fill_each.Given as goal
 
 abbrev pub invariant-loop-k : goal.invariant-loop-k

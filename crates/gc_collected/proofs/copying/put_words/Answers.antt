@@ -1,14 +1,11 @@
 -- The heap takes the words alone; the fields are logged together, and then the monitor is told of all of them.
-use Rattle.std.proofs.Common.{◌≡◌, ℕ, List, Some, None, ap, subst, sym, ◌∙◌, arith}
-use Rattle.std.specs.Prelude.{IfSome, IsFalse, Option}
+use Rattle.std.proofs.Common.{◌≡◌, ℕ, List, Some, None, subst, sym, arith}
+use Rattle.std.specs.Prelude.{IfSome, Option}
 use Rattle.std.proofs.lemmas.List.{length-map}
 use Rattle.gc_graph.specs.Graph.{Value}
 use Rattle.gc_words.specs.Word.{field_value, value_of}
 use Rattle.gc_model.specs.Belonging.{IsOpened}
-use Rattle.gc_copy.specs.Words.{CollectionWords, BelongsTo, open_state}
-use Rattle.gc_monitor.specs.Claims.{CanWriteRow}
-use Rattle.gc_monitor.specs.Events.{WroteRow}
-use Rattle.gc_collected.specs.Internal.Beside.{AreOld}
+use Rattle.gc_copy.specs.Words.{CollectionWords, BelongsTo}
 use Rattle.gc_collected.specs.Internal.CollectedHeap.{BelongsIfOpen, Fits, state_in}
 use Rattle.gc_collected.specs.Internal.Follows.{Follows}
 use Rattle.gc_collected.specs.Internal.Given.{puts_step, same_from}
@@ -16,7 +13,7 @@ use Rattle.gc_collected.specs.Internal.Together.{LogsIfOpen, fields_from}
 use Rattle.gc_collected.proofs.CopiesDone.{row_told}
 use Rattle.gc_collected.proofs.Runs.{Row, same_fields, row_fits, row_follows, row_mutators, row_ran, row_state}
 use Rattle.gc_collected.proofs.copying.put_words.Goals as goal
-use Rattle.gc_collected.proofs.copying.put_words.Goals.{After-fill_each, After-note_row}
+use Rattle.gc_collected.proofs.copying.put_words.Goals.{After-fill_each, After-log_row}
 
 -- the fields and what they took
 abbrev entries : (c : After-fill_each) → List (ℕ × Value)
@@ -60,24 +57,24 @@ returns-in_default-clause-follows c =
 
 -- ---- while one is open
 
-belonged : (c : After-note_row) → BelongsTo c.args.heap.now c.in-Some.collection
+belonged : (c : After-log_row) → BelongsTo c.args.heap.now c.in-Some.collection
 belonged c = subst (BelongsIfOpen c.args.heap.now) c.in-Some.is c.requires.belongs
 
-belongs_now : (c : After-note_row) → BelongsTo c.fill_each.new.heap c.note_row.new.collection
+belongs_now : (c : After-log_row) → BelongsTo c.fill_each.new.heap c.log_row.new.collection
 belongs_now c =
     let one = (goal.at.are_shown-requires c).After-fill_each in
-    row_fits c.args.heap.now c.fill_each.new.heap c.args.s c.args.object.0 c.args.from c.args.count (entries one) (row one) 0 (Some c.in-Some.collection) (Some c.note_row.new.collection) c.args.m c.requires.mutator c.note_row.ensures.logs (belonged c)
+    row_fits c.args.heap.now c.fill_each.new.heap c.args.s c.args.object.0 c.args.from c.args.count (entries one) (row one) 0 (Some c.in-Some.collection) (Some c.log_row.new.collection) c.args.m c.requires.mutator c.log_row.ensures.logs (belonged c)
 
 pub are_shown-requires : goal.are_shown-requires
-are_shown-requires c = belongs_now (goal.at.are_shown-requires c).After-note_row
+are_shown-requires c = belongs_now (goal.at.are_shown-requires c).After-log_row
 
 pub returns-clause-step : goal.returns-clause-step
 returns-clause-step c =
-    subst (λ (o : Option CollectionWords). puts_step (state_in c.args.heap.now o) c.args.m c.args.s (same_from c.args.from c.args.count (field_value c.args.header c.args.word)) ≡ state_in c.fill_each.new.heap (Some c.note_row.new.collection)) (sym c.in-Some.is)
-    (stepped (goal.at.returns-clause-step c).After-fill_each (Some c.in-Some.collection) (Some c.note_row.new.collection) c.note_row.ensures.logs)
+    subst (λ (o : Option CollectionWords). puts_step (state_in c.args.heap.now o) c.args.m c.args.s (same_from c.args.from c.args.count (field_value c.args.header c.args.word)) ≡ state_in c.fill_each.new.heap (Some c.log_row.new.collection)) (sym c.in-Some.is)
+    (stepped (goal.at.returns-clause-step c).After-fill_each (Some c.in-Some.collection) (Some c.log_row.new.collection) c.log_row.ensures.logs)
 
 pub returns-clause-fits : goal.returns-clause-fits
-returns-clause-fits c = λ epoch fits. belongs_now (goal.at.returns-clause-fits c).After-note_row
+returns-clause-fits c = λ epoch fits. belongs_now (goal.at.returns-clause-fits c).After-log_row
 
 pub returns-clause-mutators : goal.returns-clause-mutators
 returns-clause-mutators c =
@@ -88,13 +85,10 @@ pub returns-clause-follows : goal.returns-clause-follows
 returns-clause-follows c =
     let one = (goal.at.returns-clause-follows c).After-fill_each in
     let a = c.args.object.0 in
-    let words = c.words.ensures.value ∙ ap (λ x. x.words) c.space-2.ensures.value in
-    let told = c.written_row.ensures in
-    let count = c.from.ensures in
-    subst (λ (o : Option CollectionWords). Follows (state_in c.args.heap.now o) c.args.watch.now → Follows (state_in c.fill_each.new.heap (Some c.note_row.new.collection)) c.written_row.new.self) (sym c.in-Some.is)
-    (row_told c.args.heap.now c.fill_each.new.heap c.in-Some.collection c.note_row.new.collection c.args.m a c.args.from c.args.count c.words.result.now c.args.watch.now c.written_row.new.self (belonged (goal.at.returns-clause-follows c).After-note_row)
-    c.requires.mutator (row_ran c.args.heap.now c.fill_each.new.heap c.args.s a c.args.from c.args.count (entries one) (row one) (Some c.in-Some.collection) (Some c.note_row.new.collection) c.args.m c.note_row.ensures.logs) c.note_row.ensures.logs
+    let told = c.log_row.ensures in
+    subst (λ (o : Option CollectionWords). Follows (state_in c.args.heap.now o) c.args.watch.now → Follows (state_in c.fill_each.new.heap (Some c.log_row.new.collection)) c.log_row.new.watch) (sym c.in-Some.is)
+    (row_told c.args.heap.now c.fill_each.new.heap c.in-Some.collection c.log_row.new.collection c.args.m a c.args.from c.args.count c.fill_each.new.heap.space.words c.args.watch.now c.log_row.new.watch (belonged (goal.at.returns-clause-follows c).After-log_row)
+    c.requires.mutator (row_ran c.args.heap.now c.fill_each.new.heap c.args.s a c.args.from c.args.count (entries one) (row one) (Some c.in-Some.collection) (Some c.log_row.new.collection) c.args.m c.log_row.ensures.logs) c.log_row.ensures.logs
     (subst (λ (o : Option CollectionWords). IfSome (state_in c.args.heap.now o).collection (IsOpened (state_in c.args.heap.now o))) c.in-Some.is c.are_sound_in.ensures) c.are_shown.ensures.opened c.are_shown.ensures.heap
-    (subst (AreOld (open_state c.fill_each.new.heap c.note_row.new.collection)) (sym words) c.are_shown.ensures.old)
-    (subst (λ n. IsFalse c.args.watch.now.lost → CanWriteRow c.words.result.now a c.args.from n c.args.watch.now → IsFalse c.written_row.new.self.lost) count told.stays)
-    (subst (λ n. IsFalse c.written_row.new.self.lost → WroteRow a c.args.from n c.args.watch.now c.written_row.new.self) count told.wrote))
+    c.are_shown.ensures.old
+    told.stays told.wrote)

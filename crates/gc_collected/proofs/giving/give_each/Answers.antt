@@ -5,8 +5,9 @@ use Rattle.std.specs.Option.{unwrap_or}
 use Rattle.gc_graph.specs.Graph.{Nil}
 use Rattle.gc_words.specs.Word.{value_of}
 use Rattle.gc_heap.specs.Heap.{graph_in}
+use Rattle.gc_heap.specs.Filling.{PutsAll}
 use Rattle.gc_collected.specs.Giving.{IsGiven}
-use Rattle.gc_collected.specs.Internal.Given.{PutsAll, given_at, given_from}
+use Rattle.gc_collected.specs.Internal.Given.{given_at, given_from}
 use Rattle.gc_collected.proofs.GivenFields.{none_given, opened_given, puts_on}
 use Rattle.gc_collected.proofs.giving.give_each.Goals as goal
 

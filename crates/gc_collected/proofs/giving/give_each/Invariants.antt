@@ -2,7 +2,8 @@
 use Rattle.std.proofs.Common.{◌≡◌, Some, drop}
 use Rattle.gc_words.specs.Image.{header_at}
 use Rattle.gc_heap.specs.Heap.{HeapWords, graph_in}
-use Rattle.gc_collected.specs.Internal.Given.{PutsAll, given_from}
+use Rattle.gc_heap.specs.Filling.{PutsAll}
+use Rattle.gc_collected.specs.Internal.Given.{given_from}
 use Rattle.gc_collected.proofs.giving.give_each.Given as goal
 
 abbrev pub invariant-loop-i : goal.invariant-loop-i

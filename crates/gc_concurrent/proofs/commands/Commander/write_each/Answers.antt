@@ -6,7 +6,7 @@ use Rattle.std.specs.List.{list_all}
 use Rattle.gc_graph.specs.Graph.{Value, Num, object_of, field_of, root}
 use Rattle.gc_graph.specs.Machine.{put_field}
 use Rattle.gc_heap.specs.Heap.{HeapWords, graph_in}
-use Rattle.gc_concurrent.specs.Bulk.{is_number_word}
+use Rattle.gc_heap.specs.Raws.{is_number_word}
 use Rattle.gc_concurrent.specs.Holders.{heap_in}
 use Rattle.gc_concurrent.specs.Internal.LogRoom.{HasLogRoom}
 use Rattle.gc_concurrent.proofs.Reading.{number_means}
