@@ -7,6 +7,7 @@ KEPT = 256
 
 HEAD = re.compile(r"""(?m)^(?: *(?://|#\[).*\n)* *(?:pub(?:\([^)]*\))? )?(?:(?:(?:const|unsafe|extern "C") )*fn (\w+)|(?:const|struct|enum|trait|impl)\b[^\n{]*)""")
 IMPL = re.compile(r"impl(?:<[^>]*>)? *(?:(?:\w+::)*(\w+(?:<\w+>)?) for )?(&\[)?(\w+)")
+TRAIT = re.compile(r"(?:pub(?:\([^)]*\))? )?trait (\w+)")
 # In the layout of `rt fmt`, each clause begins a line, and so do the ghost members of a type.
 CLAUSE = re.compile(r" *(?:requires|ensures|ghost)\b(?! use\b)")
 # What the words of clauses mean.
@@ -23,8 +24,12 @@ class Item:
         self.key = (path, owner, name or start)
 
     def tail(self):
-        """Returns how the names of the function and of its proofs end: with its type, wherever the impl is, or with its module.
-        The type is Fault for `impl Fault`, FaultFromPlay for `impl From<Play> for Fault`, and RefSliceU64Reader for `impl Reader for &[u64]`."""
+        """Returns how the names of the function and of its proofs end: with its type, wherever the impl is, with its trait, if the body is the trait's own, or
+        with its module. The type is Fault for `impl Fault`, FaultFromPlay for `impl From<Play> for Fault`, and RefSliceU64Reader for
+        `impl Reader for &[u64]`."""
+        of_a_trait = TRAIT.match(self.owner)
+        if of_a_trait:
+            return [of_a_trait.group(1), self.name]
         module = [part for part in self.path[len("src/"):-len(".rt")].split("/") if part not in ("lib", "main")]
         of_trait, slice_of, owner = re.match(IMPL, self.owner).groups() if self.owner else ("", "", "")
         owner = "RefSlice" + owner.capitalize() if slice_of else owner
@@ -41,7 +46,7 @@ def items_of(path, text):
     heads, owner, found = list(HEAD.finditer(text)), "", []
     for head, following in zip(heads, heads[1:] + [None]):
         last = head.group(0).split("\n")[-1]
-        if last.lstrip().startswith("impl"):
+        if last.lstrip().startswith("impl") or TRAIT.match(last):
             owner = last.strip()
         elif not last.startswith(" "):
             owner = ""
