@@ -89,6 +89,7 @@ pub struct Copier {
 }
 
 // The word as it refers to replicas, or its target, if that has none.
+#[inline(always)]
 pub(crate) fn moved_word(claims: &[u32], word: u64) -> Result<u64, Addr>
     requires value { IsTrue (is_value word) }
     requires inside { (a : ℕ) → value_of word ≡ Ref a → half a < length claims.now }
@@ -109,6 +110,7 @@ pub(crate) fn moved_word(claims: &[u32], word: u64) -> Result<u64, Addr>
 }
 
 // The word of a field of an object that is raw or not, as it refers to replicas, or its target, if that has none.
+#[inline(always)]
 fn moved_field(raw: bool, claims: &[u32], word: u64) -> Result<u64, Addr>
     requires value { raw ≡ false → IsTrue (is_value word) }
     requires inside { (a : ℕ) → read_as raw word ≡ Ref a → half a < length claims.now }
@@ -135,6 +137,7 @@ struct Oldest {
 }
 
 // The oldest of the entries that are due.
+#[inline(always)]
 fn oldest_of(
     fill: u32,
     fill_next: u16,
@@ -174,6 +177,7 @@ fn oldest_of(
 }
 
 // The object at `name` has the replica at `place`.
+#[inline(always)]
 fn claim(claims: &mut Vec<u32>, name: u32, place: u32)
     requires { half name < length claims.old.items }
     ensures { claims.new.items ≡ slice_set claims.old.items (half name) place }
@@ -182,6 +186,7 @@ fn claim(claims: &mut Vec<u32>, name: u32, place: u32)
 }
 
 // How many fields of a new replica are to be filled.
+#[inline(always)]
 fn to_fill(header: Header) -> u16
     ensures { result ≡ (if header.raw then header.len else 0) }
 {
@@ -189,6 +194,7 @@ fn to_fill(header: Header) -> u16
 }
 
 // Nothing of a replica with this header is left to scan.
+#[inline(always)]
 fn is_scanned(header: Header, field: u16) -> bool
     ensures done { IsTrue result → (header.raw ≡ true) ⊎ (header.len ≤ field) }
     ensures left { IsFalse result → (header.raw ≡ false) × (field < header.len) }
@@ -196,7 +202,8 @@ fn is_scanned(header: Header, field: u16) -> bool
     header.is_raw() || field >= header.len()
 }
 
-// Writes field `i` of the replica at `at`, and returns its word as it is then.
+// Writes field `i` of the replica at `at`, unless it has this word, and returns its word as it is then. A load takes less time than an atomic store.
+#[inline(always)]
 fn wrote(space: &mut NextSpace, at: Addr, i: u16, word: u64) -> u64
     requires shaped { IsSpace space.old }
     requires there { IsSome (field_at space.old.words at.0 i) }
@@ -205,12 +212,16 @@ fn wrote(space: &mut NextSpace, at: Addr, i: u16, word: u64) -> u64
     ensures shaped { IsSpace space.new }
     ensures value { field_at space.new.words at.0 i ≡ Some result }
 {
+    if space.field(at, i) == word {
+        return word;
+    }
     space.set_field(at, i, word);
     space.field(at, i)
 }
 
 impl Copier {
     /// Scans the field at the scan pointer, or goes on behind the replica there.
+    #[inline(always)]
     fn scan_one(&mut self)
         requires low { self.old.scan_place < end_of self.old.space }
         requires clear { self.old.has_wanted ≡ false }
@@ -349,6 +360,7 @@ impl Copier {
     }
 
     /// Performs one step: places a replica that is wanted, fills a raw one, applies an entry, or scans a field.
+    #[inline(always)]
     pub(crate) fn work(&mut self) -> Work
         ensures seat { KeepsSeat self.old.seat.me self.new.seat.me }
         ensures row { (self.new.seat.table_id ≡ self.old.seat.table_id) × (self.new.size ≡ self.old.size) }
@@ -364,7 +376,8 @@ impl Copier {
                 Work::NoRoom
             };
         }
-        if self.apply_one() {
+        if !self.has_nothing_due() {
+            let _applied = self.apply_one();
             return Work::Step;
         }
         if self.scan_place >= self.space.end() {
@@ -405,6 +418,7 @@ impl Copier {
     }
 
     /// Returns whether nothing is due.
+    #[inline(always)]
     pub(crate) fn has_nothing_due(&self) -> bool
         ensures filled { IsTrue result → self.now.fill_left ≡ 0 }
         ensures none { IsTrue result → self.now.seat.me.0.theirs.due ≡ [] }

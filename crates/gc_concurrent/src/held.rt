@@ -208,6 +208,7 @@ impl Held {
     ghost use Rattle.gc_concurrent.specs.Internal.Settled.{IsSettled};
 
     /// Performs one step of the collector, while the mutator waits.
+    #[inline(always)]
     pub(crate) fn work(&mut self) -> Work
         ensures heap { heap_held self.new ≡ heap_held self.old }
         ensures moves { moves_held self.new ≡ moves_held self.old }
