@@ -1,5 +1,5 @@
 //! The collector's thread: it makes replicas in the space of the next heap.
-ghost use Rattle.std.specs.Prelude.{◌≡◌, ◌≢◌, ℕ, ◌+◌, ◌-◌, ◌*◌, ◌^◌, ◌<◌, ◌≤◌, true, false, List, [], ◌∷◌, ◌++◌, drop, length, slice_index, slice_set, IfOk, IfErr, IfSome, IfNone, IsTrue, IsFalse, IsSome, ◌⊎◌, ◌&&◌, if◌then◌else◌, OnErr, OnOk, Some};
+ghost use Rattle.std.specs.Prelude.{◌≡◌, ◌≢◌, ℕ, ◌+◌, ◌-◌, ◌*◌, ◌^◌, ◌<◌, ◌≤◌, true, false, List, [], ◌∷◌, ◌++◌, drop, length, replicate, slice_index, slice_set, IfOk, IfErr, IfSome, IfNone, IsTrue, IsFalse, IsSome, ◌⊎◌, ◌&&◌, if◌then◌else◌, OnErr, OnOk, Some};
 ghost use Rattle.std.specs.Arc.{arc_value};
 ghost use Rattle.gc_graph.specs.Graph.{Ref};
 ghost use Rattle.gc_words.specs.Word.{is_value, value_of};
@@ -183,6 +183,16 @@ fn claim(claims: &mut Vec<u32>, name: u32, place: u32)
     ensures { claims.new.items ≡ slice_set claims.old.items (half name) place }
 {
     claims[half(name)] = place;
+}
+
+// Sets each claim to 0. If there are none, nothing is written.
+fn clear_claims(claims: &mut Vec<u32>, are_none: bool)
+    requires { IsTrue are_none → claims.old.items ≡ replicate (length claims.old.items) 0 }
+    ensures { claims.new.items ≡ replicate (length claims.old.items) 0 }
+{
+    if !are_none {
+        claims.fill(0);
+    }
 }
 
 // How many fields of a new replica are to be filled.
@@ -481,7 +491,7 @@ impl Copier {
         cells
             .shared
             .compare_exchange::<Renewed>(&mut self.seat, 0, u64::from(size), u64::from(size));
-        self.claims.fill(0);
+        clear_claims(&mut self.claims, self.space.end() == 1);
         self.due.clear();
         self.next = 0;
         self.fill_next = 0;
