@@ -28,7 +28,7 @@ use crate::cells::{Cells, CellsEnd};
 use crate::moves::half;
 use crate::next::NextSpace;
 use crate::plays::{Applied, Flipped, Left, Passed, Placed, Renewed, Rooted, Scanned};
-use crate::spare::{Former, Spare};
+use crate::spare::{Former, Spare, zeros_for, zeros_of};
 use crate::watching::{compare, place, walk};
 use gc_graph::{NoMemory, object_words};
 use gc_monitor::Monitor;
@@ -480,9 +480,10 @@ impl Copier {
         ensures err { OnErr result (self.new.seat.me ≡ self.old.seat.me) }
         ensures row { (self.new.seat.table_id ≡ self.old.seat.table_id) × (self.new.size ≡ self.old.size) }
     {
-        self.former = None;
-        let spare = Spare::new(alloc, size)?;
-        let space = NextSpace::new(alloc, size)?;
+        let zeros = zeros_for(alloc, zeros_of(alloc, self.former.take()), size)?;
+        let space = NextSpace::of_zeros(alloc, zeros.as_slice(), size)?;
+        let mut spare = Spare::new(alloc, size)?;
+        spare.zeros = zeros;
         let reserved = self.standing.reserve(max(size, self.size));
         if reserved.is_err() {
             return Err(NoMemory);

@@ -40,6 +40,7 @@ use gc_check::Checks;
 use gc_graph::NoMemory;
 use gc_monitor::Monitor;
 use std::alloc::Global;
+use std::mem::replace;
 use std::sync::Arc;
 
 /// A mutator and its collector. One seat is both ends, and the mutator's log is empty.
@@ -390,7 +391,7 @@ impl Held {
             Ok(asked) => asked,
             Err(why) => return Err((self, why)),
         };
-        let spare = match self.copier.take_spare(alloc) {
+        let mut spare = match self.copier.take_spare(alloc) {
             Ok(spare) => spare,
             Err(NoMemory) => return Err((self, NoFlip::NoMemory)),
         };
@@ -427,7 +428,13 @@ impl Held {
         let mut empty = due;
         empty.clear();
         let (moves, row) = moves.after_flip(claims);
-        let former = Some(Former { cells, row, starts });
+        let zeros = replace(&mut spare.zeros, Vec::new(alloc));
+        let former = Some(Former {
+            cells,
+            row,
+            starts,
+            zeros,
+        });
         let (commander, copier) = begin(space, roots, moves, spare, former, log, empty, standing);
         Ok((commander, copier, asked))
     }
@@ -467,7 +474,11 @@ fn begin(
         starts,
     } = space.begin(&roots);
     let seat = one.shared.split_seat::<Roles>(&mut own);
-    let Spare { claims, space } = spare;
+    let Spare {
+        claims,
+        space,
+        zeros: _,
+    } = spare;
     (
         Commander {
             mutator: Mutator {
