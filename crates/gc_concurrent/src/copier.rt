@@ -276,6 +276,7 @@ impl Copier {
     }
 
     /// Brings the field of the oldest entry up to date, or leaves the entry out, if its object has no replica. False if nothing is due.
+    #[inline(always)]
     fn apply_one(&mut self) -> bool
         requires clear { self.old.has_wanted ≡ false }
         ensures nears { IsTrue result → Nears self.old.seat.me self.new.seat.me }
