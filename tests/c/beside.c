@@ -815,9 +815,9 @@ static void memory_of_flips(void)
             first = bytes_in_use();
         EXPECT(flip == 0 || bytes_in_use() == first);
     }
-    /* two spaces of cells, each with a bit a word for its starts; claims of two bytes a word for both, and those of the last flip, which tell where objects
-       went; less than 3 bytes a word for the checker's tables, and less than 8 KiB of other blocks */
-    EXPECT(first < (2 * 8 + 3 * 2 + 3) * (1 << 16) + 2 * (1 << 13) + 8192);
+    /* two spaces of cells, each with a bit a word for its starts, and zeros from which the next one is made; claims of two bytes a word for both, and those of
+       the last flip, which tell where objects went; less than 3 bytes a word for the checker's tables, and less than 8 KiB of other blocks */
+    EXPECT(first < (3 * 8 + 3 * 2 + 3) * (1 << 16) + 2 * (1 << 13) + 8192);
     close_both();
 }
 

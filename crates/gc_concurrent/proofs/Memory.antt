@@ -1,6 +1,6 @@
 -- The collector's memory holds the replicas of its view.
 use Rattle.std.proofs.lemmas.Grind.{common_steps}
-use Rattle.std.proofs.Common.{◌≡◌, ◌≢◌, ℕ, zero, suc, ◌+◌, ◌-◌, ◌<◌, ◌≤◌, ◌==◌, Bool, true, false, true≢false, List, [], ◌∷◌, ◌++◌, length, get_or, set, map, Some, None, is_some, refl, ap, sym, ◌∙◌, subst, inl, ⊎_elim, arith, length-set, get_or-set_same, get_or-set_other, lt_of_not-le}
+use Rattle.std.proofs.Common.{◌≡◌, ◌≢◌, ℕ, zero, suc, ◌+◌, ◌-◌, ◌<◌, ◌≤◌, ◌==◌, Bool, true, false, true≢false, List, [], ◌∷◌, ◌++◌, length, replicate, get_or, set, map, Some, None, is_some, refl, ap, sym, ◌∙◌, subst, inl, ⊎_elim, arith, length-set, get_or-set_same, get_or-set_other, lt_of_not-le}
 use Rattle.std.specs.Prelude.{slice_index, slice_set, nat_lt, IsSome, IsTrue, if◌then◌else◌}
 use Rattle.std.specs.Option.{option_map, option_map_or, option_or}
 use Rattle.std.specs.List.{find}
@@ -12,7 +12,7 @@ use Rattle.std.proofs.lemmas.List.Folds.{find-append}
 use mathlib.Core.Logic.{dite}
 use native.Mathlib.Decide.{ℕ_discrete}
 use base.Stored.{Coded-set}
-use Rattle.std.proofs.lemmas.List.{get_or_past}
+use Rattle.std.proofs.lemmas.List.{ext_get_or, get_or-replicate, get_or_past, length-replicate}
 use Rattle.std.specs.Coded.{coded_list}
 use Rattle.gc_graph.specs.Graph.{Value, Nil, Num, Ref, Object, new_object}
 use Rattle.gc_graph.specs.Machine.{object_words}
@@ -206,6 +206,18 @@ claims_as row t u old same c = record {
   long = c.long ∙ ap half (sym old);
   told = λ k l. c.told k (subst (λ n. k < half n) old l) ∙ ap (λ (rs : List Replica). claim_by_half rs k) (sym same);
 }
+
+no_replicas : (words : List ℕ) → length words ≡ 1 → replicas_in words ≡ []
+no_replicas [] one = absurd (omega arith)
+no_replicas (w ∷ []) one = refl
+no_replicas (w ∷ x ∷ rest) one = absurd (omega arith)
+
+-- a new space of one word has no replica, so each claim is 0
+pub claims_none : (row : List ℕ) (t : Theirs) (space : SpaceWords) → t.replicas ≡ replicas_in space.words → Claims row t → end_of space ≡ 1 → row ≡ replicate (length row) 0
+claims_none row t space same c end =
+    let none : t.replicas ≡ [] = same ∙ no_replicas space.words end in
+    ext_get_or 0 row (replicate (length row) 0) (sym (length-replicate (length row) 0))
+    (λ k l. c.told k (subst (λ n. k < n) c.long l) ∙ ap (λ (rs : List Replica). claim_by_half rs k) none ∙ sym (get_or-replicate (length row) k 0 0 l))
 
 -- ---- replicas stay
 

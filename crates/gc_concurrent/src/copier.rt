@@ -1,5 +1,5 @@
 //! The collector's thread: it makes replicas in the space of the next heap.
-ghost use Rattle.std.specs.Prelude.{◌≡◌, ◌≢◌, ℕ, ◌+◌, ◌-◌, ◌*◌, ◌^◌, ◌<◌, ◌≤◌, true, false, List, [], ◌∷◌, ◌++◌, drop, length, slice_index, slice_set, IfOk, IfErr, IfSome, IfNone, IsTrue, IsFalse, IsSome, ◌⊎◌, ◌&&◌, if◌then◌else◌, OnErr, OnOk, Some};
+ghost use Rattle.std.specs.Prelude.{◌≡◌, ◌≢◌, ℕ, ◌+◌, ◌-◌, ◌*◌, ◌^◌, ◌<◌, ◌≤◌, true, false, List, [], ◌∷◌, ◌++◌, drop, length, replicate, slice_index, slice_set, IfOk, IfErr, IfSome, IfNone, IsTrue, IsFalse, IsSome, ◌⊎◌, ◌&&◌, if◌then◌else◌, OnErr, OnOk, Some};
 ghost use Rattle.std.specs.Arc.{arc_value};
 ghost use Rattle.gc_graph.specs.Graph.{Ref};
 ghost use Rattle.gc_words.specs.Word.{is_value, value_of};
@@ -28,7 +28,7 @@ use crate::cells::{Cells, CellsEnd};
 use crate::moves::half;
 use crate::next::NextSpace;
 use crate::plays::{Applied, Flipped, Left, Passed, Placed, Renewed, Rooted, Scanned};
-use crate::spare::{Former, Spare};
+use crate::spare::{Former, Spare, zeros_for, zeros_of};
 use crate::watching::{compare, place, walk};
 use gc_graph::{NoMemory, object_words};
 use gc_monitor::Monitor;
@@ -89,6 +89,7 @@ pub struct Copier {
 }
 
 // The word as it refers to replicas, or its target, if that has none.
+#[inline(always)]
 pub(crate) fn moved_word(claims: &[u32], word: u64) -> Result<u64, Addr>
     requires value { IsTrue (is_value word) }
     requires inside { (a : ℕ) → value_of word ≡ Ref a → half a < length claims.now }
@@ -109,6 +110,7 @@ pub(crate) fn moved_word(claims: &[u32], word: u64) -> Result<u64, Addr>
 }
 
 // The word of a field of an object that is raw or not, as it refers to replicas, or its target, if that has none.
+#[inline(always)]
 fn moved_field(raw: bool, claims: &[u32], word: u64) -> Result<u64, Addr>
     requires value { raw ≡ false → IsTrue (is_value word) }
     requires inside { (a : ℕ) → read_as raw word ≡ Ref a → half a < length claims.now }
@@ -135,6 +137,7 @@ struct Oldest {
 }
 
 // The oldest of the entries that are due.
+#[inline(always)]
 fn oldest_of(
     fill: u32,
     fill_next: u16,
@@ -174,6 +177,7 @@ fn oldest_of(
 }
 
 // The object at `name` has the replica at `place`.
+#[inline(always)]
 fn claim(claims: &mut Vec<u32>, name: u32, place: u32)
     requires { half name < length claims.old.items }
     ensures { claims.new.items ≡ slice_set claims.old.items (half name) place }
@@ -181,7 +185,18 @@ fn claim(claims: &mut Vec<u32>, name: u32, place: u32)
     claims[half(name)] = place;
 }
 
+// Sets each claim to 0. If there are none, nothing is written.
+fn clear_claims(claims: &mut Vec<u32>, are_none: bool)
+    requires { IsTrue are_none → claims.old.items ≡ replicate (length claims.old.items) 0 }
+    ensures { claims.new.items ≡ replicate (length claims.old.items) 0 }
+{
+    if !are_none {
+        claims.fill(0);
+    }
+}
+
 // How many fields of a new replica are to be filled.
+#[inline(always)]
 fn to_fill(header: Header) -> u16
     ensures { result ≡ (if header.raw then header.len else 0) }
 {
@@ -189,6 +204,7 @@ fn to_fill(header: Header) -> u16
 }
 
 // Nothing of a replica with this header is left to scan.
+#[inline(always)]
 fn is_scanned(header: Header, field: u16) -> bool
     ensures done { IsTrue result → (header.raw ≡ true) ⊎ (header.len ≤ field) }
     ensures left { IsFalse result → (header.raw ≡ false) × (field < header.len) }
@@ -196,7 +212,8 @@ fn is_scanned(header: Header, field: u16) -> bool
     header.is_raw() || field >= header.len()
 }
 
-// Writes field `i` of the replica at `at`, and returns its word as it is then.
+// Writes field `i` of the replica at `at`, unless it has this word, and returns its word as it is then. A load takes less time than an atomic store.
+#[inline(always)]
 fn wrote(space: &mut NextSpace, at: Addr, i: u16, word: u64) -> u64
     requires shaped { IsSpace space.old }
     requires there { IsSome (field_at space.old.words at.0 i) }
@@ -205,12 +222,16 @@ fn wrote(space: &mut NextSpace, at: Addr, i: u16, word: u64) -> u64
     ensures shaped { IsSpace space.new }
     ensures value { field_at space.new.words at.0 i ≡ Some result }
 {
+    if space.field(at, i) == word {
+        return word;
+    }
     space.set_field(at, i, word);
     space.field(at, i)
 }
 
 impl Copier {
     /// Scans the field at the scan pointer, or goes on behind the replica there.
+    #[inline(always)]
     fn scan_one(&mut self)
         requires low { self.old.scan_place < end_of self.old.space }
         requires clear { self.old.has_wanted ≡ false }
@@ -255,6 +276,7 @@ impl Copier {
     }
 
     /// Brings the field of the oldest entry up to date, or leaves the entry out, if its object has no replica. False if nothing is due.
+    #[inline(always)]
     fn apply_one(&mut self) -> bool
         requires clear { self.old.has_wanted ≡ false }
         ensures nears { IsTrue result → Nears self.old.seat.me self.new.seat.me }
@@ -349,6 +371,7 @@ impl Copier {
     }
 
     /// Performs one step: places a replica that is wanted, fills a raw one, applies an entry, or scans a field.
+    #[inline(always)]
     pub(crate) fn work(&mut self) -> Work
         ensures seat { KeepsSeat self.old.seat.me self.new.seat.me }
         ensures row { (self.new.seat.table_id ≡ self.old.seat.table_id) × (self.new.size ≡ self.old.size) }
@@ -364,7 +387,8 @@ impl Copier {
                 Work::NoRoom
             };
         }
-        if self.apply_one() {
+        if !self.has_nothing_due() {
+            let _applied = self.apply_one();
             return Work::Step;
         }
         if self.scan_place >= self.space.end() {
@@ -405,6 +429,7 @@ impl Copier {
     }
 
     /// Returns whether nothing is due.
+    #[inline(always)]
     pub(crate) fn has_nothing_due(&self) -> bool
         ensures filled { IsTrue result → self.now.fill_left ≡ 0 }
         ensures none { IsTrue result → self.now.seat.me.0.theirs.due ≡ [] }
@@ -456,9 +481,10 @@ impl Copier {
         ensures err { OnErr result (self.new.seat.me ≡ self.old.seat.me) }
         ensures row { (self.new.seat.table_id ≡ self.old.seat.table_id) × (self.new.size ≡ self.old.size) }
     {
-        self.former = None;
-        let spare = Spare::new(alloc, size)?;
-        let space = NextSpace::new(alloc, size)?;
+        let zeros = zeros_for(alloc, zeros_of(alloc, self.former.take()), size)?;
+        let space = NextSpace::of_zeros(alloc, zeros.as_slice(), size)?;
+        let mut spare = Spare::new(alloc, size)?;
+        spare.zeros = zeros;
         let reserved = self.standing.reserve(max(size, self.size));
         if reserved.is_err() {
             return Err(NoMemory);
@@ -467,7 +493,7 @@ impl Copier {
         cells
             .shared
             .compare_exchange::<Renewed>(&mut self.seat, 0, u64::from(size), u64::from(size));
-        self.claims.fill(0);
+        clear_claims(&mut self.claims, self.space.end() == 1);
         self.due.clear();
         self.next = 0;
         self.fill_next = 0;

@@ -230,6 +230,7 @@ impl Collector {
 
     /// Performs one step, beside the mutator. If nothing is left to do, the standing checker walks on over the objects that the mutator has made, so that
     /// fewer are left to a flip.
+    #[inline(always)]
     pub fn work(&mut self) -> Work
         ensures nearer { result ≡ Work.Step → GetsOn (known_to self.old.copier) (known_to self.new.copier) }
         ensures done { WhereDone result (known_to self.new.copier) }
@@ -293,6 +294,7 @@ impl Asking {
     ghost use Rattle.gc_concurrent.specs.Nearing.{GetsOn, steps_ahead};
 
     /// Performs one step, beside the mutator.
+    #[inline(always)]
     pub fn work(&mut self) -> Work
         ensures nearer { result ≡ Work.Step → GetsOn (known_to self.old.copier) (known_to self.new.copier) }
         ensures done { WhereDone result (known_to self.new.copier) }
@@ -391,6 +393,7 @@ impl Holding {
     }
 
     /// Performs one step, while the mutator waits.
+    #[inline(always)]
     pub fn work(&mut self) -> Work
         ensures done { WhereDone result (known_to self.new.held.copier) }
         ensures room { WhereNoRoom result (known_to self.new.held.copier) }

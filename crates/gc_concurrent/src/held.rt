@@ -40,6 +40,7 @@ use gc_check::Checks;
 use gc_graph::NoMemory;
 use gc_monitor::Monitor;
 use std::alloc::Global;
+use std::mem::replace;
 use std::sync::Arc;
 
 /// A mutator and its collector. One seat is both ends, and the mutator's log is empty.
@@ -208,6 +209,7 @@ impl Held {
     ghost use Rattle.gc_concurrent.specs.Internal.Settled.{IsSettled};
 
     /// Performs one step of the collector, while the mutator waits.
+    #[inline(always)]
     pub(crate) fn work(&mut self) -> Work
         ensures heap { heap_held self.new ≡ heap_held self.old }
         ensures moves { moves_held self.new ≡ moves_held self.old }
@@ -389,7 +391,7 @@ impl Held {
             Ok(asked) => asked,
             Err(why) => return Err((self, why)),
         };
-        let spare = match self.copier.take_spare(alloc) {
+        let mut spare = match self.copier.take_spare(alloc) {
             Ok(spare) => spare,
             Err(NoMemory) => return Err((self, NoFlip::NoMemory)),
         };
@@ -426,7 +428,13 @@ impl Held {
         let mut empty = due;
         empty.clear();
         let (moves, row) = moves.after_flip(claims);
-        let former = Some(Former { cells, row, starts });
+        let zeros = replace(&mut spare.zeros, Vec::new(alloc));
+        let former = Some(Former {
+            cells,
+            row,
+            starts,
+            zeros,
+        });
         let (commander, copier) = begin(space, roots, moves, spare, former, log, empty, standing);
         Ok((commander, copier, asked))
     }
@@ -466,7 +474,11 @@ fn begin(
         starts,
     } = space.begin(&roots);
     let seat = one.shared.split_seat::<Roles>(&mut own);
-    let Spare { claims, space } = spare;
+    let Spare {
+        claims,
+        space,
+        zeros: _,
+    } = spare;
     (
         Commander {
             mutator: Mutator {

@@ -1,6 +1,6 @@
 //! The space of the next heap, in cells of its own. Until a flip the collector is its mutator: it places replicas and writes their fields by the steps
 //! with which a mutator makes and writes objects.
-ghost use Rattle.std.specs.Prelude.{◌≡◌, ℕ, ◌+◌, ◌/◌, ◌<◌, ◌≤◌, [], ◌↔◌, length, Some, IfOk, IsSome, IsTrue};
+ghost use Rattle.std.specs.Prelude.{◌≡◌, ℕ, ◌+◌, ◌/◌, ◌<◌, ◌≤◌, [], ◌↔◌, length, replicate, Some, IfOk, IsSome, IsTrue};
 ghost use Rattle.std.specs.Arc.{arc_value};
 ghost use Rattle.gc_words.specs.Image.{Block, block_at, field_at, fresh_block, header_at, is_start};
 ghost use Rattle.gc_words.specs.Spelling.{link_at};
@@ -70,8 +70,18 @@ impl NextSpace {
         ensures empty { IfOk result (λ space. space ≡ empty_space size) }
         ensures shaped { IfOk result IsSpace }
     {
-        let words = Vec::from_elem(alloc, 0u64, size as usize)?;
-        let (table, seat) = Cells::of_words(alloc, words.as_slice(), &CellsKey { size })?;
+        let zeros = Vec::from_elem(alloc, 0u64, size as usize)?;
+        NextSpace::of_zeros(alloc, zeros.as_slice(), size)
+    }
+
+    /// Returns an empty space of `size` words, at least 1, which is made from so many zeros. Writes to all of its memory.
+    pub(crate) fn of_zeros(alloc: Global, zeros: &[u64], size: u32) -> Result<NextSpace, NoMemory>
+        requires low { 1 ≤ size }
+        requires zeros { zeros.now ≡ replicate size 0 }
+        ensures empty { IfOk result (λ space. space ≡ empty_space size) }
+        ensures shaped { IfOk result IsSpace }
+    {
+        let (table, seat) = Cells::of_words(alloc, zeros, &CellsKey { size })?;
         let cells = Arc::new(alloc, table)?;
         let other = Arc::try_clone(&cells)?;
         let starts = Vec::from_elem(alloc, 0u64, size as usize / 64 + 1)?;

@@ -54,6 +54,7 @@ pub(crate) fn walk(cells: &Cells, seat: &mut CellsEnd, standing: &mut Monitor, s
 
 /// Compares field `i` of the replica at `at`, which has this header word, with this field of its original as it is now. The field of the replica
 /// has this word. If the tables have such a replica, the checker is not lost.
+#[inline(always)]
 pub(crate) fn compare(
     cells: &Cells,
     seat: &mut CellsEnd,

@@ -1,3 +1,3 @@
 -- Definitions that only private contracts and proofs use. They are not part of the public interface.
 pub mod Lending
-pub mod Stepping
+pub mod Unflipped

@@ -2,9 +2,10 @@
 
 ghost use Rattle.std.specs.Prelude.{◌≡◌, ◌≢◌, ◌≤◌};
 ghost use Rattle.gcflip_beside_c.specs.Addresses.{CarriesReachable, beginning_at, beginning_of_end};
-ghost use Rattle.gcflip_beside_c.specs.Internal.Stepping.{StepsOn, why_in_c};
+ghost use Rattle.gc_concurrent.specs.Holders.{beginning_held, heap_held, known_to};
+ghost use Rattle.gcflip_beside_c.specs.Internal.Unflipped.{why_in_c};
 ghost use Rattle.gcflip_beside_c.specs.Stages.{Asks, IsBesidePrepare, PreparesSpace, TakesMutator, Goes, PlacesRoots, FlipsHeld, FinishesHeld, IsCertifiedPair, HasWorked, IsBesideWork, TurnsByFinish, TurnsByFlip};
-ghost use Rattle.gcflip_beside_c.specs.HandleStage.{stage, stage_of, turns_at, turns_of_end, IsCollector};
+ghost use Rattle.gcflip_beside_c.specs.HandleStage.{works, asks, holds, stage, stage_of, turns_at, turns_of_end, IsCollector};
 
 use crate::answer::{
     CLEAN, CLOSED, DONE, FLIPPED, NO_MEMORY, NO_ROOM, NOT_READY, NOT_YET, OUT_OF_RANGE,
@@ -13,42 +14,63 @@ use crate::end::End;
 use crate::guards::lent;
 use crate::handle::GcflipEnd;
 use gc_check::{Checks, Sequential};
-use gc_concurrent::{NoFlip, Work};
+use gc_concurrent::{Asking, Collector, Holding, NoFlip, Work};
 use gc_graph::NoMemory;
 use std::alloc::Global;
 use std::mem::replace;
 
-// Performs one step.
-fn step(end: &mut End) -> Work
-    requires { IsCollector (stage_of end.old) }
-    ensures stages { StepsOn result (stage_of end.old) (stage_of end.new) }
-    ensures turns { turns_of_end end.new ≡ turns_of_end end.old }
-    ensures begun { beginning_of_end end.new ≡ beginning_of_end end.old }
+/// Performs at most so many steps of a collector. A loop for each stage keeps the test of the stage out of the steps.
+macro_rules! steps_of {
+    ($collector:ident, $most:ident) => {{
+        for k in 0..$most {
+            match $collector.work() {
+                Work::Step => {}
+                Work::Done => return CLEAN,
+                Work::NoRoom => return NO_ROOM,
+            }
+        }
+        DONE
+    }};
+}
+
+// Performs at most so many steps beside a mutator.
+fn steps_beside(collector: &mut Collector, most: u32) -> u32
+    ensures stages { HasWorked most (works (known_to collector.old.copier)) (works (known_to collector.new.copier)) result }
+    ensures turns { collector.new.turns ≡ collector.old.turns }
 {
-    match end {
-        End::Working(collector) => collector.work(),
-        End::Asking(asking) => asking.work(),
-        End::Holding(holding) => holding.work(),
-        _ => unreachable!(),
-    }
+    steps_of!(collector, most)
+}
+
+// The same once the mutator is asked to stop.
+fn steps_asking(asking: &mut Asking, most: u32) -> u32
+    ensures stages { HasWorked most (asks (known_to asking.old.copier)) (asks (known_to asking.new.copier)) result }
+    ensures turns { asking.new.turns ≡ asking.old.turns }
+{
+    steps_of!(asking, most)
+}
+
+// The same while the mutator waits.
+fn steps_holding(holding: &mut Holding, most: u32) -> u32
+    ensures stages { HasWorked most (holds (known_to holding.old.held.copier) (heap_held holding.old.held)) (holds (known_to holding.new.held.copier) (heap_held holding.new.held)) result }
+    ensures turns { holding.new.turns ≡ holding.old.turns }
+    ensures begun { beginning_held holding.new.held ≡ beginning_held holding.old.held }
+{
+    steps_of!(holding, most)
 }
 
 // Performs at most so many steps.
-#[tactic(auto, using(crate::proofs::Stepping::collector_still))]
 fn steps(end: &mut End, most: u32) -> u32
     requires { IsCollector (stage_of end.old) }
     ensures stages { HasWorked most (stage_of end.old) (stage_of end.new) result }
     ensures turns { turns_of_end end.new ≡ turns_of_end end.old }
     ensures begun { beginning_of_end end.new ≡ beginning_of_end end.old }
 {
-    for k in 0..most {
-        match step(end) {
-            Work::Step => {}
-            Work::Done => return CLEAN,
-            Work::NoRoom => return NO_ROOM,
-        }
+    match end {
+        End::Working(collector) => steps_beside(collector, most),
+        End::Asking(asking) => steps_asking(asking, most),
+        End::Holding(holding) => steps_holding(holding, most),
+        _ => unreachable!(),
     }
-    DONE
 }
 
 /// Performs `most` steps, or fewer if nothing is left to do. Returns 0 if it performed all of them, and 35 if nothing is left. Returns 3 if the handle has

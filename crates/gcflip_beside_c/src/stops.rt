@@ -1,9 +1,9 @@
 //! The exports by which a mutator stops at a safepoint and goes on. None of them waits.
 
-ghost use Rattle.std.specs.Prelude.{◌≡◌};
+ghost use Rattle.std.specs.Prelude.{◌≡◌, IsTrue};
 ghost use Rattle.gcflip_beside_c.specs.Addresses.{ComesThrough, situation_at, situation_of_end};
 ghost use Rattle.gcflip_beside_c.specs.Stages.{Stops, Resumes};
-ghost use Rattle.gcflip_beside_c.specs.HandleStage.{stage, stage_of};
+ghost use Rattle.gcflip_beside_c.specs.HandleStage.{stage, stage_of, IsRunning};
 
 use crate::answer::{CLOSED, DONE, NOT_YET, PARKED};
 use crate::end::End;
@@ -31,16 +31,40 @@ fn stopped(end: End) -> (End, u32)
     }
 }
 
+// Returns whether the end is a mutator that runs and is not asked to stop.
+fn runs_on(end: &End) -> bool
+    ensures { IsTrue result → IsRunning (stage_of end.now) }
+{
+    match end {
+        End::Running(runner) => !runner.is_asked(),
+        _ => false,
+    }
+}
+
+// Stops the mutator of this end if its collector asks for it. Moves the end, which takes room on the stack.
+#[inline(never)]
+fn stop(end: &mut End) -> u32
+    ensures stops { Stops (stage_of end.old) (stage_of end.new) result }
+    ensures moves { situation_of_end end.new ≡ situation_of_end end.old }
+{
+    let (next, answer) = stopped(replace(end, End::Nothing));
+    *end = next;
+    answer
+}
+
 /// A safepoint: if the collector asks for it, the mutator stops. Returns 0 if it runs on, 12 if it has stopped, and 3 if the handle has no mutator.
 #[unsafe(no_mangle)]
+#[tactic(auto, using(crate::proofs::Stopping::runs_still))]
 pub extern "C" fn gcflip_beside_safepoint(mutator: &mut GcflipEnd) -> u32
     ensures stops { Stops (stage mutator.old.end) (stage mutator.new.end) result }
     ensures moves { situation_at mutator.new.end ≡ situation_at mutator.old.end }
 {
     let end = lent!(mutator);
-    let (next, answer) = stopped(replace(end, End::Nothing));
-    *end = next;
-    answer
+    // Mostly nobody asks, and the end stays where it is.
+    if runs_on(end) {
+        return DONE;
+    }
+    stop(end)
 }
 
 // Lets the mutator go on if its collector allows it.

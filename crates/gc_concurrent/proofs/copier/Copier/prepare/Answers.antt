@@ -3,6 +3,7 @@ use Rattle.std.proofs.Common.{◌≡◌, ◌⊎◌, ⊎_elim, ℕ, ◌≤◌, fa
 use Rattle.std.specs.Prelude.{OnOk, is_err}
 use Rattle.std.specs.Ordering.{nat_cmp, ord_max}
 use Rattle.std.proofs.lemmas.Grind.{common_steps}
+use Rattle.std.proofs.lemmas.Bool.{eqb-true}
 use Rattle.std.proofs.Math.Logic.{∥∥₁_elim}
 use Rattle.std.proofs.Props.{props}
 use Rattle.gc_words.specs.Space.{SpaceWords}
@@ -17,7 +18,7 @@ use Rattle.gc_monitor.specs.Tables.{Tables}
 use Rattle.gc_concurrent.specs.Internal.Rule.{Sat}
 use Rattle.gc_concurrent.specs.Internal.Following.{Follows}
 use Rattle.gc_concurrent.proofs.TiedCells.{tied, tied_words}
-use Rattle.gc_concurrent.proofs.Memory.{old_low}
+use Rattle.gc_concurrent.proofs.Memory.{claims_none, old_low}
 use Rattle.gc_concurrent.proofs.Opening.{renews_at}
 use Rattle.gc_concurrent.proofs.Following.{through}
 use Rattle.gc_concurrent.proofs.Comparing.{along_still, dropped_follows, roomy_follows}
@@ -30,6 +31,11 @@ compare_exchange-requires c =
       (let w = tied_words _ _ _ _ c.deref-cells.ensures a.row.0 a.row.1 in let l = old_low a.seat.me.0.theirs a.loose in let s = a.sized.0 in omega arith),
       renews_at _ _ _ _ c.args.size _ _ c.from.ensures c.from-2.ensures a.copies c.requires.low (omega arith),
     )
+
+pub clear_claims-requires : goal.clear_claims-requires
+clear_claims-requires c is =
+    let a = c.args.self.now in
+    claims_none a.claims.items a.seat.me.0.theirs a.space a.same a.claimed (sym c.end.ensures.value ∙ eqb-true c.end.result 1 is)
 
 pub invariant_of-self-then-is_err-clause-along : goal.invariant_of-self-then-is_err-clause-along
 invariant_of-self-then-is_err-clause-along c =

@@ -6,13 +6,13 @@ use Rattle.gc_concurrent.proofs.Opening.{empty_shaped, opens_rule}
 use Rattle.gc_concurrent.specs.Internal.Rule.{Sat}
 use Rattle.gc_concurrent.specs.Internal.Starts.{TellsStarts}
 use Rattle.gc_concurrent.proofs.Marking.{marks_none}
-use Rattle.gc_concurrent.proofs.next.NextSpace.new.Goals as goal
+use Rattle.gc_concurrent.proofs.next.NextSpace.of_zeros.Goals as goal
 
 pub of_words-requires : goal.of_words-requires
 of_words-requires c =
     let size : ℕ = c.args.size in
-    let items : c.as_slice.result.now ≡ replicate c.args.size 0 = search (rules, c.as_slice.ensures.value, c.in_ok-words.ensures.items_if_clones_equal) in
-    opens_rule size c.as_slice.result.now (empty_shaped size c.requires.low (omega arith)) (ap (length {A = ℕ}) items ∙ length-replicate size 0) (λ k. ap (λ (ws : List ℕ). get_or ws k 0) items ∙ zero_at size k)
+    let items : c.args.zeros.now ≡ replicate size 0 = c.requires.zeros in
+    opens_rule size c.args.zeros.now (empty_shaped size c.requires.low (omega arith)) (ap (length {A = ℕ}) items ∙ length-replicate size 0) (λ k. ap (λ (ws : List ℕ). get_or ws k 0) items ∙ zero_at size k)
 
 -- no object starts in an empty space, and none is marked
 pub invariant_of-result-clause-marked : goal.invariant_of-result-clause-marked
