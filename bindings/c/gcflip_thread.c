@@ -277,8 +277,8 @@ static bool makes_space(gcflip_thread *thread, uint32_t size)
     return true;
 }
 
-/* Makes the memory of the next flip, beside the mutator. If there is none for a larger space, the heap keeps its size. Returns false if there is none for that
- * either. */
+/* Makes the memory of the next flip, beside the mutator. If there is none for a larger space, what was prepared stays, or the space has the size of the heap.
+ * Returns false if there is none for that either. */
 static bool prepares(gcflip_thread *thread)
 {
     uint32_t next = next_size(thread);
@@ -356,7 +356,7 @@ static uint64_t greater(uint64_t a, uint64_t b)
     return a > b ? a : b;
 }
 
-/* The words of a larger space, which has room for so many more, or those of the heap if it may not grow. The caller has the lock. */
+/* Twice the words of the heap and so many more, or the most that it may have if that is less. The caller has the lock. */
 static uint32_t larger(const gcflip_thread *thread, uint32_t words)
 {
     uint64_t wanted = 2 * (uint64_t)thread->words + words, most = greater(thread->most, thread->words);
@@ -364,7 +364,7 @@ static uint32_t larger(const gcflip_thread *thread, uint32_t words)
     return (uint32_t)(wanted < most ? wanted : most);
 }
 
-/* Tells the collector the words of the next space: of a larger one if more than half of the heap was in use after the last flip. The caller has the lock. */
+/* Tells the collector the words of the next space. It is larger if the last flip left more than half of the heap in use. The caller has the lock. */
 static void plans(gcflip_thread *thread)
 {
     thread->next = 2 * (uint64_t)thread->kept > thread->words ? larger(thread, 0) : thread->words;
@@ -687,7 +687,7 @@ static bool has_ended(const gcflip_thread *thread, uint64_t so_far)
     return ends(thread) != so_far;
 }
 
-/* Lets the next collection take a larger space, with room for so many words more, unless one is under way. */
+/* Lets the next collection take a larger space, which has room for so many words more. One that is under way keeps its own. */
 static void grows(gcflip_thread *thread, uint32_t words)
 {
     if (thread->has_called) {
@@ -889,7 +889,9 @@ uint32_t gcflip_thread_open_with(gcflip_thread **opened, const gcflip_beside_opt
     if (thread == NULL) {
         return GCFLIP_NO_MEMORY;
     }
-    *thread = (gcflip_thread){.options = *options, .size = options->size, .words = options->size, .next = options->size, .factor = pace->factor, .least = pace->least, .wanted = NEVER, .used = NOTHING_KNOWN};
+    *thread = (gcflip_thread){.options = *options, .size = options->size, .factor = pace->factor, .least = pace->least, .wanted = NEVER, .used = NOTHING_KNOWN};
+    thread->words = options->size;
+    thread->next = options->size;
     thread->looks = has_one_processor() ? 0 : LOOKS;
     if (makes_lock(thread)) {
         answer = starts(thread);

@@ -10,7 +10,7 @@
 #include <time.h>
 
 /* The words of a heap at its opening, and those of an object of the list. Word 0 is always in use. */
-enum { WORDS = 4096, CELL = 4, NEWEST = 0, LIST = 1, NUMBER = 2, READ = 3 };
+enum { WORDS = 4096, CELL = 4, NEWEST = 0, LIST = 1, NUMBER = 2, READ = 3, KEPT = 4 };
 
 /* ---- Allocation */
 
@@ -177,7 +177,7 @@ static void expect_full(uint32_t size)
 static void use(uint32_t words)
 {
     EXPECT(gcflip_beside_clear(mutator, 0, GCFLIP_BESIDE_ROOTS) == GCFLIP_DONE);
-    EXPECT(gcflip_beside_new(mutator, NEWEST, 1, words - 3) == GCFLIP_MADE);
+    EXPECT(gcflip_beside_new(mutator, KEPT, 1, words - 3) == GCFLIP_MADE);
     EXPECT(in_use() == words);
 }
 
@@ -285,7 +285,7 @@ static void takes_so_many_words(void)
     expect_flips(1);
     EXPECT(gcflip_beside_new(mutator, LIST, 1, 10 * WORDS - 2) == GCFLIP_MADE);
     EXPECT(gcflip_thread_reserve(thread, 2 * WORDS) == GCFLIP_DONE && gcflip_thread_size(thread) == 26 * WORDS);
-    EXPECT(gcflip_thread_reserve(thread, 100 * WORDS) == GCFLIP_FULL && gcflip_thread_size(thread) == 100 * WORDS);
+    EXPECT(gcflip_thread_reserve(thread, UINT32_MAX) == GCFLIP_FULL && gcflip_thread_size(thread) == 100 * WORDS);
     EXPECT(in_use() == 1 + 10 * WORDS);
     close_heap();
     open_words(WORDS);
@@ -307,6 +307,45 @@ static void grows_after_one_under_way(void)
     EXPECT(gcflip_thread_size(thread) == 4 * WORDS && in_use() == WORDS / 2 + 2);
     gcflip_thread_read(thread, &counts);
     EXPECT(counts.flips == 2 && counts.failed == 0);
+    close_heap();
+}
+
+/* A program that collects where it finds the heap full goes on too: a flip that leaves it full lets the next one take a larger space. */
+static void grows_where_it_is_full(void)
+{
+    open_words(WORDS);
+    gcflip_thread_growing(thread, 64 * WORDS);
+    for (uint32_t k = 0; k < 8 * WORDS / CELL; k++) {
+        for (int tries = 0; gcflip_beside_room(mutator) < CELL; tries++) {
+            EXPECT(tries < 2);
+            collect();
+        }
+        lengthen();
+    }
+    expect_list();
+    EXPECT(gcflip_thread_size(thread) > 8 * WORDS && gcflip_thread_size(thread) <= 32 * WORDS);
+    close_heap();
+}
+
+/* Fills a heap that has fewer words than this with one object, which lives on. */
+enum { FILLED = 8 * WORDS };
+
+static void fill(void *nothing)
+{
+    (void)nothing;
+    if (gcflip_thread_size(thread) < FILLED)
+        EXPECT(gcflip_beside_new(mutator, READ, 1, gcflip_beside_room(mutator) - 2) == GCFLIP_MADE);
+}
+
+/* Where the program itself takes the room after the flip, the heap grows on, from 4,096 words by 3, 7 and 15 times as many. */
+static void grows_on(void)
+{
+    open_words(WORDS);
+    gcflip_thread_growing(thread, 64 * WORDS);
+    gcflip_thread_on_flip(thread, fill, NULL);
+    EXPECT(gcflip_thread_reserve(thread, WORDS) == GCFLIP_DONE);
+    EXPECT(gcflip_thread_size(thread) == 15 * WORDS && in_use() < FILLED);
+    expect_flips(3);
     close_heap();
 }
 
@@ -383,7 +422,7 @@ static void changes_its_mind(void)
 /* A program whose safepoints do not wait goes through the flip too. While it has stopped, the size is that of before. */
 static void grows_at_a_try(void)
 {
-    bool has_flipped = false;
+    bool has_flipped = false, has_stopped;
 
     open_words(WORDS);
     gcflip_thread_growing(thread, 64 * WORDS);
@@ -395,11 +434,10 @@ static void grows_at_a_try(void)
     for (int k = 0; k < 10000 && !has_flipped; k++) {
         if (gcflip_beside_room(mutator) > 32)
             EXPECT(gcflip_beside_new(mutator, READ, 1, 14) == GCFLIP_MADE);
-        if (gcflip_thread_try_safepoint(thread) == GCFLIP_PARKED)
-            EXPECT(gcflip_thread_size(thread) == WORDS && gcflip_beside_room(mutator) == 0);
-        else
-            has_flipped = gcflip_beside_flips(mutator) == 2;
+        has_stopped = gcflip_thread_try_safepoint(thread) == GCFLIP_PARKED;
+        has_flipped = gcflip_beside_flips(mutator) == 2;
         sleeps(1);
+        EXPECT(!has_stopped || (gcflip_thread_size(thread) == WORDS && gcflip_beside_room(mutator) == 0));
     }
     EXPECT(has_flipped && gcflip_thread_size(thread) == 2 * WORDS);
     EXPECT(in_use() >= 3000 && in_use() < WORDS);
@@ -456,6 +494,35 @@ static void the_pace_follows(void)
     close_heap();
 }
 
+/* A heap that may not grow any more goes to a larger space all the same, if a collection has begun with that. No later space is smaller. Returns whether the
+   collection had begun in time. */
+static bool changes_its_mind_meanwhile(void)
+{
+    bool has_grown;
+
+    open_words(WORDS);
+    gcflip_thread_growing(thread, 64 * WORDS);
+    use(3000);
+    collect();
+    EXPECT(gcflip_beside_new(mutator, READ, 1, 600) == GCFLIP_MADE);
+    EXPECT(gcflip_beside_set_nil(mutator, READ) == GCFLIP_DONE);
+    EXPECT(gcflip_thread_safepoint(thread) == GCFLIP_DONE);
+    sleeps(20);
+    gcflip_thread_growing(thread, 0);
+    expect_flip(2);
+    has_grown = gcflip_thread_size(thread) == 2 * WORDS;
+    if (has_grown) {
+        EXPECT(lengthen_by(1200));
+        for (int flip = 0; flip < 3; flip++) {
+            collect();
+            EXPECT(gcflip_thread_size(thread) == 2 * WORDS && in_use() == 3000 + CELL * length);
+            expect_list();
+        }
+    }
+    close_heap();
+    return has_grown;
+}
+
 /* ---- Memory that is refused */
 
 /* While no larger space can be had, the heap is full at its size, and its flips go on, also where more than half of it is in use. Later it grows. */
@@ -490,6 +557,40 @@ static void keeps_what_it_grew_to(void)
     EXPECT(!lengthen_by(WORDS));
     expect_full(3 * WORDS);
     largest = SIZE_MAX;
+    close_heap();
+}
+
+/* If the system refuses a larger space, the one that was made serves, though there is no memory for another one either. */
+static void takes_what_was_made(void)
+{
+    open_words(WORDS);
+    gcflip_thread_growing(thread, 64 * WORDS);
+    use(1500);
+    largest = BYTES * WORDS / 2;
+    EXPECT(gcflip_thread_reserve(thread, 3000) == GCFLIP_FULL);
+    EXPECT(gcflip_thread_size(thread) == WORDS && in_use() == 1500);
+    expect_flips(1);
+    largest = SIZE_MAX;
+    EXPECT(gcflip_thread_reserve(thread, 3000) == GCFLIP_DONE && gcflip_thread_size(thread) == 2 * WORDS + 3000);
+    close_heap();
+}
+
+/* Garbage that a flip did not free, because memory ran out for it, does not make the heap grow. */
+static void fails_without_growth(void)
+{
+    open_words(WORDS);
+    gcflip_thread_growing(thread, 64 * WORDS);
+    use(500);
+    EXPECT(gcflip_beside_new(mutator, READ, 1, 2500) == GCFLIP_MADE);
+    EXPECT(gcflip_beside_set_nil(mutator, READ) == GCFLIP_DONE);
+    largest = 0;
+    EXPECT(gcflip_thread_collect(thread) == GCFLIP_NO_MEMORY);
+    largest = SIZE_MAX;
+    for (int flip = 0; flip < 2; flip++) {
+        collect();
+        EXPECT(gcflip_thread_size(thread) == WORDS);
+    }
+    EXPECT(in_use() == 500);
     close_heap();
 }
 
@@ -547,14 +648,20 @@ int main(void)
     keeps_its_size();
     takes_so_many_words();
     grows_after_one_under_way();
+    grows_where_it_is_full();
+    grows_on();
     grows_at_a_flip();
     stops_at_a_flip();
     makes_the_space_beforehand();
     changes_its_mind();
+    for (int tries = 1; !changes_its_mind_meanwhile(); tries++)
+        EXPECT(tries < 100);
     grows_at_a_try();
     the_pace_follows();
     keeps_on_without_memory();
     keeps_what_it_grew_to();
+    takes_what_was_made();
+    fails_without_growth();
     refused_in_turn();
     return 0;
 }
