@@ -285,8 +285,10 @@ static void takes_so_many_words(void)
     expect_flips(1);
     EXPECT(gcflip_beside_new(mutator, LIST, 1, 10 * WORDS - 2) == GCFLIP_MADE);
     EXPECT(gcflip_thread_reserve(thread, 2 * WORDS) == GCFLIP_DONE && gcflip_thread_size(thread) == 26 * WORDS);
+    expect_flips(3);
     EXPECT(gcflip_thread_reserve(thread, UINT32_MAX) == GCFLIP_FULL && gcflip_thread_size(thread) == 100 * WORDS);
     EXPECT(in_use() == 1 + 10 * WORDS);
+    expect_flips(5);
     close_heap();
     open_words(WORDS);
     gcflip_thread_growing(thread, 3 * WORDS);
@@ -381,14 +383,25 @@ static void stops_at_a_flip(void)
     close_heap();
 }
 
-/* The larger space is made after the flip, and not only once a collection is called for. */
+/* Goes through a flip by safepoints that do not wait. Some time passes while the mutator has stopped. */
+static void flip_slowly(uint64_t flips)
+{
+    for (int tries = 0; gcflip_beside_flips(mutator) != flips; tries++) {
+        EXPECT(tries < 1000);
+        gcflip_thread_try_safepoint(thread);
+        sleeps(20);
+    }
+}
+
+/* The larger space is made after the flip, and not only once a collection is called for. The collector waits until the mutator has gone on, and then makes
+   this space alone. */
 static void makes_the_space_beforehand(void)
 {
     open_words(WORDS);
     gcflip_thread_growing(thread, 64 * WORDS);
     use(3000);
     large_requests = 0;
-    collect();
+    flip_slowly(1);
     for (int k = 0; k < 10000 && large_requests == 0; k++)
         sleeps(1);
     EXPECT(large_requests > 0);
@@ -494,11 +507,11 @@ static void the_pace_follows(void)
     close_heap();
 }
 
-/* A heap that may not grow any more goes to a larger space all the same, if a collection has begun with that. No later space is smaller. Returns whether the
-   collection had begun in time. */
+/* A heap that may not grow any more goes to a larger space all the same, if a collection has begun with that. No later space is smaller, and the next one is
+   made at once. Returns whether the threads were in time for both. */
 static bool changes_its_mind_meanwhile(void)
 {
-    bool has_grown;
+    uint32_t answer = GCFLIP_NOT_YET;
 
     open_words(WORDS);
     gcflip_thread_growing(thread, 64 * WORDS);
@@ -509,18 +522,18 @@ static bool changes_its_mind_meanwhile(void)
     EXPECT(gcflip_thread_safepoint(thread) == GCFLIP_DONE);
     sleeps(20);
     gcflip_thread_growing(thread, 0);
-    expect_flip(2);
-    has_grown = gcflip_thread_size(thread) == 2 * WORDS;
-    if (has_grown) {
-        EXPECT(lengthen_by(1200));
-        for (int flip = 0; flip < 3; flip++) {
-            collect();
-            EXPECT(gcflip_thread_size(thread) == 2 * WORDS && in_use() == 3000 + CELL * length);
-            expect_list();
-        }
+    flip_slowly(2);
+    if (gcflip_thread_size(thread) == 2 * WORDS) {
+        EXPECT(gcflip_beside_new(mutator, NEWEST, 1, 2000) == GCFLIP_MADE);
+        largest = BYTES * WORDS;
+        answer = gcflip_thread_collect(thread);
+        largest = SIZE_MAX;
+        EXPECT(answer == GCFLIP_FLIPPED || answer == GCFLIP_NO_MEMORY);
+        collect();
+        EXPECT(gcflip_thread_size(thread) == 2 * WORDS && in_use() == 5002);
     }
     close_heap();
-    return has_grown;
+    return answer == GCFLIP_FLIPPED;
 }
 
 /* ---- Memory that is refused */
