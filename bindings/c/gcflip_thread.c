@@ -45,12 +45,14 @@
 #define LINE 64
 
 struct gcflip_thread {
-    gcflip_beside_options options; /* as the heap was opened, with its size, */
-    uint32_t size, factor, least;  /* and with its pace */
+    gcflip_beside_options options; /* as the heap was opened, */
+    uint32_t factor, least;        /* and with its pace */
     uint32_t looks;                /* before a thread sleeps: none if both threads share a processor */
 
     /* the mutator's thread alone */
     gcflip_mutator mutator;
+    uint32_t size;       /* the words of the heap in which the mutator runs */
+    uint32_t kept;       /* those in use after its last flip */
     uint32_t floor;      /* a safepoint that finds fewer free words calls the collector, or lets it catch up */
     bool has_called;     /* a collection is under way */
     uint32_t begun;      /* the free words when it was called for */
@@ -70,10 +72,10 @@ struct gcflip_thread {
 
     /* the collector's thread alone */
     _Alignas(LINE) gcflip_collector collector;
-    bool is_prepared; /* the memory of the next flip is made */
-    uint32_t stops;   /* those of the collection that is under way */
-    uint64_t since;   /* the steps since the last of them */
-    uint32_t late;    /* the last stops in a row at which entries of an earlier log were left, or at least 1 after a try to flip in vain */
+    uint32_t prepared; /* the words of the next space, or 0 if the memory of the next flip is not made */
+    uint32_t stops;    /* those of the collection that is under way */
+    uint64_t since;    /* the steps since the last of them */
+    uint32_t late;     /* the last stops in a row at which entries of an earlier log were left, or at least 1 after a try to flip in vain */
 
     _Alignas(LINE) pthread_t thread;
     pthread_mutex_t lock;
@@ -93,6 +95,9 @@ struct gcflip_thread {
     uint64_t wanted;     /* the steps for which the mutator waits, or NEVER */
     uint64_t last_steps; /* those of the last collection that flipped */
     bool has_failed;     /* the collection that ended last, so that its copies are left to the next one */
+    uint32_t most;       /* the words up to which the heap grows; 0 if it does not */
+    uint32_t words;      /* those of the heap since the last flip */
+    uint32_t next;       /* those that the next space is to have, no fewer */
     gcflip_thread_counts counts;
     gcflip_flip_checks checks;
 };
@@ -170,6 +175,8 @@ static void lets_go(gcflip_thread *thread, uint32_t answer)
     thread->counts.flips += answer == GCFLIP_FLIPPED;
     if (answer == GCFLIP_FLIPPED) {
         thread->has_failed = false;
+        thread->words = thread->prepared;
+        thread->next = thread->words;
         gcflip_beside_flip_checks(&thread->collector, &thread->checks);
         thread->last_steps = thread->steps;
         if (thread->stops > thread->counts.most_stops) {
@@ -245,13 +252,41 @@ static bool works_beside(gcflip_thread *thread)
     return true;
 }
 
-/* Makes the memory of the next flip, beside the mutator. Returns false if there is none. */
+/* Returns the words that the next space is to have. If the heap may grow, the mutator says so once it has gone on, since it alone knows how many are in
+ * use. */
+static uint32_t next_size(gcflip_thread *thread)
+{
+    uint32_t size;
+
+    pthread_mutex_lock(&thread->lock);
+    if (thread->words < thread->most) {
+        waits_for(thread, &thread->called, &thread->is_parked, false);
+    }
+    size = thread->next;
+    pthread_mutex_unlock(&thread->lock);
+    return size;
+}
+
+/* Makes the memory of a flip to a space of so many words, in the place of what was prepared. Returns false, and leaves that, if there is none. */
+static bool makes_space(gcflip_thread *thread, uint32_t size)
+{
+    if (gcflip_beside_prepare(&thread->collector, size) != GCFLIP_DONE) {
+        return false;
+    }
+    thread->prepared = size;
+    return true;
+}
+
+/* Makes the memory of the next flip, beside the mutator. If there is none for a larger space, what was prepared stays, or the space has the size of the heap.
+ * Returns false if there is none for that either. */
 static bool prepares(gcflip_thread *thread)
 {
-    if (!thread->is_prepared) {
-        thread->is_prepared = gcflip_beside_prepare(&thread->collector, thread->size) == GCFLIP_DONE;
+    uint32_t next = next_size(thread);
+
+    if (thread->prepared == next || makes_space(thread, next) || thread->prepared != 0) {
+        return true;
     }
-    return thread->is_prepared;
+    return thread->words < next && makes_space(thread, thread->words);
 }
 
 /* One collection, until it flips or memory runs out. The first stop is for the roots. */
@@ -276,8 +311,10 @@ static void collects(gcflip_thread *thread)
         thread->late = tries > 1;
         lets_go(thread, answer);
     }
-    thread->is_prepared = answer != GCFLIP_FLIPPED;
-    prepares(thread);
+    if (answer == GCFLIP_FLIPPED) {
+        thread->prepared = 0;
+        prepares(thread);
+    }
 }
 
 static void *run(void *argument)
@@ -289,7 +326,7 @@ static void *run(void *argument)
     pthread_mutex_lock(&thread->lock);
     thread->opened = opened;
     thread->is_open = true;
-    thread->is_prepared = opened == GCFLIP_DONE;
+    thread->prepared = thread->options.size;
     pthread_cond_signal(&thread->let_go);
     pthread_mutex_unlock(&thread->lock);
     while (!closing) {
@@ -317,6 +354,20 @@ static uint32_t room(gcflip_thread *thread)
 static uint64_t greater(uint64_t a, uint64_t b)
 {
     return a > b ? a : b;
+}
+
+/* Twice the words of the heap and so many more, or the most that it may have if that is less. The caller has the lock. */
+static uint32_t larger(const gcflip_thread *thread, uint32_t words)
+{
+    uint64_t wanted = 2 * (uint64_t)thread->words + words, most = greater(thread->most, thread->words);
+
+    return (uint32_t)(wanted < most ? wanted : most);
+}
+
+/* Tells the collector the words of the next space. It is larger if the last flip left more than half of the heap in use. The caller has the lock. */
+static void plans(gcflip_thread *thread)
+{
+    thread->next = 2 * (uint64_t)thread->kept > thread->words ? larger(thread, 0) : thread->words;
 }
 
 /* The words in use at which a collection begins at the latest, after one that left so many. If nothing waited during that one, so much room is enough as is
@@ -394,6 +445,11 @@ static void sees_ends(gcflip_thread *thread)
     if (thread->seen_ends != ends(thread)) {
         thread->seen_ends = ends(thread);
         thread->used = thread->has_waited ? NOTHING_KNOWN : thread->begun - thread->left;
+        thread->size = thread->words;
+        if (!thread->has_failed) {
+            thread->kept = thread->size - room(thread);
+            plans(thread);
+        }
         rests(thread);
     }
 }
@@ -631,6 +687,17 @@ static bool has_ended(const gcflip_thread *thread, uint64_t so_far)
     return ends(thread) != so_far;
 }
 
+/* Lets the next collection take a larger space, which has room for so many words more. One that is under way keeps its own. */
+static void grows(gcflip_thread *thread, uint32_t words)
+{
+    if (thread->has_called) {
+        return;
+    }
+    pthread_mutex_lock(&thread->lock);
+    thread->next = larger(thread, words);
+    pthread_mutex_unlock(&thread->lock);
+}
+
 /* Whether a collection that is called for now copies only what is live when it begins. One that is under way, or that failed, has copies from before. */
 static bool begins_anew(gcflip_thread *thread)
 {
@@ -678,19 +745,36 @@ uint32_t gcflip_thread_collect(gcflip_thread *thread)
 
 uint32_t gcflip_thread_reserve(gcflip_thread *thread, uint32_t words)
 {
-    bool is_whole = false;
+    bool is_last = false;
 
     gcflip_thread_safepoint(thread);
     while (room(thread) < words) {
-        if (is_whole || thread->is_following) {
+        uint32_t size = thread->size;
+
+        if (is_last || thread->is_following) {
             return GCFLIP_FULL;
         }
-        is_whole = begins_anew(thread);
+        is_last = begins_anew(thread);
+        grows(thread, words);
         if (ends_one(thread, true) != GCFLIP_FLIPPED) {
             return GCFLIP_NO_MEMORY;
         }
+        is_last = is_last && thread->size == size;
     }
     return GCFLIP_DONE;
+}
+
+void gcflip_thread_growing(gcflip_thread *thread, uint32_t most)
+{
+    pthread_mutex_lock(&thread->lock);
+    thread->most = most;
+    plans(thread);
+    pthread_mutex_unlock(&thread->lock);
+}
+
+uint32_t gcflip_thread_size(const gcflip_thread *thread)
+{
+    return thread->size;
 }
 
 void gcflip_thread_on_flip(gcflip_thread *thread, void (*function)(void *argument), void *argument)
@@ -806,6 +890,8 @@ uint32_t gcflip_thread_open_with(gcflip_thread **opened, const gcflip_beside_opt
         return GCFLIP_NO_MEMORY;
     }
     *thread = (gcflip_thread){.options = *options, .size = options->size, .factor = pace->factor, .least = pace->least, .wanted = NEVER, .used = NOTHING_KNOWN};
+    thread->words = options->size;
+    thread->next = options->size;
     thread->looks = has_one_processor() ? 0 : LOOKS;
     if (makes_lock(thread)) {
         answer = starts(thread);

@@ -13,7 +13,8 @@
  * at a stop, or more after 64 stops that were not enough. If the mutator allocates faster than the collector copies, its safepoints wait for the collector, each
  * for 0.2 ms at most. Once less than a sixteenth of the room is left that was free when the collection began, they wait for the flip. Between two
  * safepoints the program can allocate that sixteenth. So it finds the heap full only if it allocates more there, or if live objects leave too little
- * room. With gcflip_thread_reserve in the place of safepoints it finds the heap full only if live objects leave too little room. */
+ * room. With gcflip_thread_reserve in the place of safepoints it finds the heap full only if live objects leave too little room. The heap keeps its size, unless
+ * gcflip_thread_growing lets it grow. */
 #ifndef GCFLIP_THREAD_H
 #define GCFLIP_THREAD_H
 
@@ -67,9 +68,21 @@ uint32_t gcflip_thread_try_safepoint(gcflip_thread *thread);
 uint32_t gcflip_thread_collect(gcflip_thread *thread);
 
 /* A safepoint after which `words` words are free: GCFLIP_DONE. If too few are, waits for the flip of the collection that is under way. If these are still too
- * few, waits for that of a collection which begins in this call. Returns GCFLIP_FULL if that one left fewer: live objects leave no more room. Returns
- * GCFLIP_NO_MEMORY if a flip was not made. A program that calls it before each allocation, with the words of the object, finds the heap full only then. */
+ * few, waits for that of a collection which begins in this call. That one takes a larger space if the heap may grow. Returns GCFLIP_FULL if it left fewer: live
+ * objects leave no more room, and the heap has not grown enough. Returns GCFLIP_NO_MEMORY if a flip was not made. A program that calls it before each allocation,
+ * with the words of the object, finds the heap full only then. */
 uint32_t gcflip_thread_reserve(gcflip_thread *thread, uint32_t words);
+
+/* Lets the heap grow up to `most` words. A collection takes a larger space if gcflip_thread_reserve finds too little room. It also does so if more than half
+ * of the heap was in use after the last flip. That space has twice as many words as the heap, and those to be reserved, but at most `most`. If the system
+ * refuses its memory, the collection takes a space of the heap's size. A collection that is under way keeps its space. If `most` is not above the size, the
+ * heap does not grow. It is 0 after the opening.
+ *
+ * A space is made before its collection begins. So if gcflip_thread_reserve asks for a larger one, the space that was made already keeps its memory until then. */
+void gcflip_thread_growing(gcflip_thread *thread, uint32_t most);
+
+/* Returns the number of words of the heap in which the mutator runs, or ran before it stopped. */
+uint32_t gcflip_thread_size(const gcflip_thread *thread);
 
 /* Lets the heap call `function(argument)` after each flip, so that the program follows its tables by gcflip_beside_moved. NULL ends that. The
  * mutator's thread makes the call, without a lock, once the mutator runs in the new space. The safepoint at which it had stopped goes on afterwards. One

@@ -119,15 +119,17 @@ struct schedule {
     uint32_t sleep_let_go; /* and after it has let it go */
     bool finishes;         /* it performs all steps while it holds the mutator */
     uint32_t whole_each;   /* the option of the heap: each flip with this number checks both spaces whole */
+    uint32_t opened;       /* for the source: the words of the heap at its opening, which grows up to WORDS */
 };
 
 static const struct schedule schedules[] = {
-    {"the source", true, 200, 0, 0, 0, false, 0},
-    {"the source, always due", true, 100, 0, 0, 0, false, 2},
-    {"a loop", false, 0, 0, 0, 0, false, 0},
-    {"a loop that sleeps beside", false, 0, 200000, 0, 0, false, 1},
-    {"a loop that sleeps while it holds", false, 0, 0, 100000, 0, false, 0},
-    {"a loop that finishes, and sleeps after it", false, 0, 0, 0, 300000, true, 3},
+    {"the source", true, 200, 0, 0, 0, false, 0, WORDS},
+    {"the source, always due", true, 100, 0, 0, 0, false, 2, WORDS},
+    {"the source, in a heap that grows", true, 150, 0, 0, 0, false, 5, 128},
+    {"a loop", false, 0, 0, 0, 0, false, 0, WORDS},
+    {"a loop that sleeps beside", false, 0, 200000, 0, 0, false, 1, WORDS},
+    {"a loop that sleeps while it holds", false, 0, 0, 100000, 0, false, 0, WORDS},
+    {"a loop that finishes, and sleeps after it", false, 0, 0, 0, 300000, true, 3, WORDS},
 };
 
 static const struct schedule *schedule;
@@ -237,6 +239,10 @@ static void safepoint(void)
         /* after one that does not wait, the mutator may have stopped */
         if (below(4) == 0) {
             gcflip_thread_try_safepoint(thread);
+            return;
+        }
+        if (schedule->opened < WORDS && below(4) == 0) {
+            EXPECT(gcflip_thread_reserve(thread, below(64)) != GCFLIP_NO_MEMORY);
             return;
         }
         EXPECT(gcflip_thread_safepoint(thread) == GCFLIP_DONE);
@@ -488,7 +494,7 @@ static uint64_t runs(uint64_t commands)
     pthread_t other;
     gcflip_thread_counts counts;
     gcflip_flip_checks checks;
-    gcflip_beside_options options = gcflip_beside_options_default(WORDS);
+    gcflip_beside_options options = gcflip_beside_options_default(schedule->opened);
 
     made = 0;
     memset(roots, 0, sizeof roots);
@@ -500,6 +506,7 @@ static uint64_t runs(uint64_t commands)
         pace.factor = schedule->factor;
         pace.least = 0;
         EXPECT(gcflip_thread_open_with(&thread, &options, &pace) == GCFLIP_DONE);
+        gcflip_thread_growing(thread, WORDS);
     } else {
         is_over = false;
         loop_flips = 0;
@@ -516,6 +523,7 @@ static uint64_t runs(uint64_t commands)
         EXPECT(gcflip_thread_safepoint(thread) == GCFLIP_DONE);
         gcflip_thread_read(thread, &counts);
         gcflip_thread_flip_checks(thread, &checks);
+        EXPECT(schedule->opened == WORDS || gcflip_thread_size(thread) > schedule->opened);
         gcflip_thread_close(thread);
         expect_checks(&checks, counts.flips);
         EXPECT(counts.failed == 0);

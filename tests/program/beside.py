@@ -1,7 +1,7 @@
 """Tests of the library for C whose collector works in another thread: programs of tests/c that call it, and the example.
 
 It tests libgcflip_beside.a, built and installed by bindings/c, with its two headers: each answer, each close and each refused allocation, in one
-thread and in two, also by valgrind; each allocation of a whole run, refused in turn in either thread; calls of many commands; calls by address, and a table of them that follows each flip; the stops of a flip; the pace of the thread; random commands beside a collector's thread under six schedules, a million in all, compared with a machine that never collects; the source
+thread and in two, also by valgrind; each allocation of a whole run, refused in turn in either thread; calls of many commands; calls by address, and a table of them that follows each flip; the stops of a flip; the pace of the thread; a heap that grows; random commands beside a collector's thread under seven schedules, a million in all, compared with a machine that never collects; the source
 gcflip_thread.c with sanitizers, ThreadSanitizer among them; the headers by C99 and C++11; the exported symbols; a run of examples/beside. It reports
 what it skips for lack of a tool.
 """
@@ -14,8 +14,8 @@ from .harness import Outcome, difference, file_of
 BINDINGS = os.path.join(TOP, "bindings", "c")
 HEADERS = ["gcflip_beside.h", "gcflip_thread.h"]
 DECLARED = re.compile(r"^(?:\w+ \*?)(gcflip_(?:beside|thread)_\w+)\(", re.M)
-# The commands of each schedule, of which beside_threads.c has six.
-COMMANDS = 170000
+# The commands of each schedule, of which beside_threads.c has seven.
+COMMANDS = 150000
 EXAMPLE_LINES = re.compile(rb"trees: 2000, sum of the last ones: 16117760\nflips: [1-9]\d*, stops: [1-9]\d*\nwaited at safepoints: [0-9.]+ ms, longest wait: [0-9.]+ ms\n")
 
 
@@ -37,7 +37,7 @@ def programs(_program, folder):
     for name, words, _cpp in compilers():
         if not usable(folder, name, words):
             continue
-        for source in ("beside.c", "beside_bulk.c", "beside_refused.c", "beside_stops.c", "beside_pace.c", "beside_addresses.c", "beside_tables.c"):
+        for source in ("beside.c", "beside_bulk.c", "beside_refused.c", "beside_stops.c", "beside_pace.c", "beside_addresses.c", "beside_tables.c", "beside_grows.c"):
             path, why = built.build(words, source, built.archive())
             yield "%s by %s" % (source, name), why or difference(done([path]), Outcome())
         path, why = built.build(words, "beside_threads.c", built.archive())
@@ -53,11 +53,11 @@ def sanitized(_program, folder):
     environment = thread_sanitizer_options(folder)
     for kind, words in [("sanitizers", SANITIZERS), ("ThreadSanitizer", THREAD_SANITIZER)]:
         if usable(folder, "beside_threads.c with %s" % kind, ["gcc", *words]):
-            for name, arguments in [("beside_threads.c", ["5000", "2"]), ("beside_pace.c", []), ("beside_tables.c", ["50", "2"])]:
+            for name, arguments in [("beside_threads.c", ["5000", "2"]), ("beside_pace.c", []), ("beside_tables.c", ["50", "2"]), ("beside_grows.c", [])]:
                 path, why = built.build(["gcc", *words], name, [source, *built.archive()])
                 yield "%s with %s" % (name, kind), why or difference(done([path, *arguments], env=environment), Outcome())
     if has_valgrind("beside.c"):
-        for name, words in [("beside.c", []), ("beside_bulk.c", ["100000"]), ("beside_refused.c", []), ("beside_addresses.c", []), ("beside_threads.c", ["2000", "3"]), ("beside_tables.c", ["10", "3"])]:
+        for name, words in [("beside.c", []), ("beside_bulk.c", ["100000"]), ("beside_refused.c", []), ("beside_addresses.c", []), ("beside_threads.c", ["2000", "3"]), ("beside_tables.c", ["10", "3"]), ("beside_grows.c", [])]:
             path, why = built.build(["gcc"], name, built.archive())
             yield "%s by valgrind" % name, why or difference(done([*VALGRIND, path, *words]), Outcome())
 

@@ -214,6 +214,67 @@ class Collections(unittest.TestCase):
         with self.assertRaises(gcflip.Closed):
             mutator.reserve(0)
 
+    def listed(self, mutator, most):
+        """Puts cells in front of the list in A, each with the number of cells behind it, until the heap has no room or so many are there. Returns their
+        number."""
+        for number in range(most):
+            try:
+                mutator.reserve(4)
+            except gcflip.Full:
+                return number
+            mutator.new_pair(B, 2, A, A)
+            mutator.put_number(B, 1, number)
+            mutator.copy(A, B)
+            mutator.set_nil(B)
+        return most
+
+    def expect_listed(self, mutator, cells):
+        mutator.copy(B, A)
+        for number in reversed(range(cells)):
+            self.assertEqual(mutator.peek(B, 1), number)
+            mutator.get(B, B, 0)
+        self.assertIsNone(mutator.look(B))
+
+    def test_a_heap_that_may_grow_does_where_too_little_room_is_left(self):
+        with beside.Mutator(1000) as mutator:
+            mutator.growing(100000)
+            self.assertEqual((mutator.size(), self.listed(mutator, 2000)), (1000, 2000))
+            self.expect_listed(mutator, 2000)
+            self.assertGreater(mutator.size(), 8000)
+            self.assertEqual(mutator.counts().failed, 0)
+        with beside.Mutator(1000) as mutator:
+            mutator.growing(100000)
+            # Twice the words of the heap, and those that are reserved.
+            mutator.reserve(5000)
+            self.assertEqual((mutator.size(), mutator.room(), mutator.counts().flips), (7000, 6999, 1))
+        for call in (lambda: mutator.growing(0), mutator.size):
+            self.assertRaises(gcflip.Closed, call)
+
+    def test_a_heap_grows_up_to_its_most_words(self):
+        for most, size in ((3000, 3000), (999, 1000), (0, 1000)):
+            with beside.Mutator(1000) as mutator:
+                mutator.growing(most)
+                cells = (size - 1) // 4
+                self.assertEqual(self.listed(mutator, 10000), cells)
+                self.assertRaises(gcflip.Full, mutator.reserve, (1 << 32) - 1)
+                self.assertEqual(mutator.size(), size)
+                self.expect_listed(mutator, cells)
+                for words in (-1, 1 << 32):
+                    self.assertRaises(gcflip.OutOfRange, mutator.growing, words)
+
+    def test_a_heap_grows_at_a_flip_after_one_that_left_more_than_half_in_use(self):
+        for fields, size in ((497, 1000), (498, 2000)):
+            with beside.Mutator(1000) as mutator:
+                mutator.growing(100000)
+                mutator.new(A, 1, fields)
+                mutator.collect()
+                self.assertEqual(mutator.size(), 1000)
+                mutator.collect()
+                self.assertEqual((mutator.size(), mutator.room()), (size, size - 3 - fields))
+                mutator.growing(0)
+                mutator.collect()
+                self.assertEqual((mutator.size(), mutator.look(A)), (size, gcflip.Object(1, fields)))
+
     def test_each_third_flip_checks_both_spaces_whole(self):
         with beside.Mutator(64, 1, whole_each=3) as mutator:
             self.assertEqual(mutator.roots(), 33)

@@ -81,6 +81,8 @@ THREADS: Dict[str, Tuple[Any, List[Any]]] = {
     "try_safepoint": (c_uint32, [c_void_p]),
     "collect": (c_uint32, [c_void_p]),
     "reserve": (c_uint32, [c_void_p, c_uint32]),
+    "growing": (None, [c_void_p, c_uint32]),
+    "size": (c_uint32, [c_void_p]),
     "on_flip": (None, [c_void_p, FOLLOWER, c_void_p]),
     "read": (None, [c_void_p, POINTER(RawCounts)]),
     "flip_checks": (None, [c_void_p, POINTER(library.RawFlipChecks)]),
@@ -243,9 +245,15 @@ class Mutator:
 
     def reserve(self, words: int) -> None:
         """A safepoint after which so many words are free, so that an allocation which takes no more succeeds. If too few are free, waits for the flip of the
-        collection that is under way. If they are still too few, waits for that of one which begins in this call. Raises Full if that one left fewer, because
-        live objects take the others, and OutOfMemory if memory ran out for a flip."""
+        collection that is under way. If they are still too few, waits for that of one which begins in this call, in a larger space if the heap may grow. Raises
+        Full if that one left fewer, because live objects take the others and the heap has not grown, and OutOfMemory if memory ran out for a flip."""
         _answered("reserve", self._stop("reserve", *in_range((words,), [c_uint32])))
+
+    def growing(self, most: int) -> None:
+        """Lets the heap grow up to `most` words. A collection takes a larger space if `reserve` finds too little room, or if more than half of the heap was in use
+        after the last flip. With 0 it does not grow. Raises OutOfRange for 2^32 or more."""
+        words, = in_range((most,), [c_uint32])
+        self._turn.take(lambda: self._calls.thread_growing(self._opened(), words))
 
     def on_flip(self, function: Callable[[], object] | None) -> None:
         """Calls a function after each flip from now on, so that the program follows its tables by `moved`. None ends that. The call comes within `safepoint`,
@@ -435,6 +443,10 @@ class Mutator:
         """Returns the number of flips that the mutator has gone through. It is 0 while the mutator has stopped. As long as it stays the same, so do all
         addresses."""
         return self._counted("flips")
+
+    def size(self) -> int:
+        """Returns the number of words of the heap in which the mutator runs, or ran before it stopped. A flip may make it larger after `growing`."""
+        return int(self._turn.take(lambda: self._calls.thread_size(self._opened())))
 
     def room(self) -> int:
         """Returns the number of free words, which is 0 while the mutator has stopped. An object takes as many as it has fields, and 2 more."""

@@ -169,6 +169,26 @@ impl Mutator {
         }
     }
 
+    /// Lets the heap grow up to `most` words. A collection takes a larger space if [`reserve`](Mutator::reserve) finds too little room, or if more than half of the
+    /// heap was in use after the last flip. With 0 it does not grow.
+    ///
+    /// ```
+    /// use gcflip::beside::Mutator;
+    /// use gcflip::Place;
+    ///
+    /// # fn main() -> gcflip::Result<()> {
+    /// let mutator = Mutator::open(4096)?.growing(1 << 20);
+    /// mutator.reserve(10_000)?;
+    /// mutator.new_object(Place::shared(0), 1, 9_998)?;
+    /// assert!(mutator.size() > 10_000);
+    /// # Ok(())
+    /// # }
+    /// ```
+    pub fn growing(self, most: u32) -> Mutator {
+        self.handle.growing(most);
+        self
+    }
+
     /// A safepoint. If the collector asks for it, the mutator stops and waits here until it may go on, after a flip or before. If the mutator has
     /// allocated faster than the collector copies, it waits until the collector has caught up, or has flipped.
     pub fn safepoint(&self) {
@@ -195,11 +215,11 @@ impl Mutator {
     }
 
     /// A safepoint after which `words` words are free, so that an allocation which takes no more succeeds. If too few are free, waits for the flip of the
-    /// collection that is under way. If they are still too few, waits for that of one which begins in this call.
+    /// collection that is under way. If they are still too few, waits for that of one which begins in this call, in a larger space if the heap may grow.
     ///
     /// # Errors
     ///
-    /// Returns `Full` if that one left fewer, because live objects take the others, or `NoMemory` if memory ran out for a flip.
+    /// Returns `Full` if that one left fewer, because live objects take the others and the heap has not grown, or `NoMemory` if memory ran out for a flip.
     pub fn reserve(&self, words: u32) -> Result<()> {
         replied(self.handle.reserve(words)).map(drop)
     }
@@ -529,6 +549,11 @@ impl Mutator {
     /// ```
     pub fn on_flip<R>(&self, mut follow: impl FnMut(&Mutator), body: impl FnOnce() -> R) -> R {
         self.handle.on_flip(&mut || follow(self), body)
+    }
+
+    /// Returns the number of words of the heap in which the mutator runs, or ran before it stopped. A flip may make it larger after [`growing`](Mutator::growing).
+    pub fn size(&self) -> u32 {
+        self.handle.size()
     }
 
     /// Returns the number of free words, which is 0 while the mutator has stopped. An object takes as many as it has fields, and 2 more.

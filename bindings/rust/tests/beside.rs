@@ -248,6 +248,68 @@ fn words_that_garbage_takes_are_reserved_and_those_of_live_objects_are_not() {
     assert_eq!((mutator.look(A), mutator.room()), (Ok(Value::Object { kind: 1, fields: 500 }), 497));
 }
 
+/// Puts cells in front of the list in `A`, each with the number of cells behind it, until the heap has no room or so many are there. Returns their number.
+fn listed(mutator: &Mutator, most: u64) -> u64 {
+    for number in 0..most {
+        match mutator.reserve(4) {
+            Err(Error::Full) => return number,
+            reserved => reserved.unwrap(),
+        }
+        mutator.new_pair(B, 2, A, A).unwrap();
+        mutator.put_number(B, 1, number).unwrap();
+        mutator.copy(A, B).unwrap();
+        mutator.set_nil(B).unwrap();
+    }
+    most
+}
+
+fn expect_listed(mutator: &Mutator, cells: u64) {
+    mutator.copy(B, A).unwrap();
+    for number in (0..cells).rev() {
+        assert_eq!(mutator.peek(B, 1), Ok(Value::Number(number)));
+        mutator.get(B, B, 0).unwrap();
+    }
+    assert_eq!(mutator.look(B), Ok(Value::Nil));
+}
+
+#[test]
+fn a_heap_that_may_grow_does_where_too_little_room_is_left() {
+    let mutator = Mutator::open(1000).unwrap().growing(100_000);
+    assert_eq!((mutator.size(), listed(&mutator, 2000)), (1000, 2000));
+    expect_listed(&mutator, 2000);
+    assert!(mutator.size() > 8000 && mutator.counts().failed == 0);
+    // Twice the words of the heap, and those that are reserved.
+    let mutator = Mutator::open(1000).unwrap().growing(100_000);
+    mutator.reserve(5000).unwrap();
+    assert_eq!((mutator.size(), mutator.room(), mutator.counts().flips), (7000, 6999, 1));
+}
+
+#[test]
+fn a_heap_grows_up_to_its_most_words() {
+    for (most, size) in [(3000, 3000), (999, 1000), (0, 1000)] {
+        let mutator = Mutator::open(1000).unwrap().growing(most);
+        let cells = u64::from(size - 1) / 4;
+        assert_eq!(listed(&mutator, 10_000), cells);
+        assert_eq!((mutator.size(), mutator.reserve(u32::MAX), mutator.size()), (size, Err(Error::Full), size));
+        expect_listed(&mutator, cells);
+    }
+}
+
+#[test]
+fn a_heap_grows_at_a_flip_after_one_that_left_more_than_half_in_use() {
+    for (fields, size) in [(497, 1000), (498, 2000)] {
+        let mutator = Mutator::open(1000).unwrap().growing(100_000);
+        mutator.new_object(A, 1, fields).unwrap();
+        mutator.collect().unwrap();
+        assert_eq!(mutator.size(), 1000);
+        mutator.collect().unwrap();
+        assert_eq!((mutator.size(), mutator.room()), (size, size - 3 - u32::from(fields)));
+        let mutator = mutator.growing(0);
+        mutator.collect().unwrap();
+        assert_eq!((mutator.size(), mutator.look(A)), (size, Ok(Value::Object { kind: 1, fields })));
+    }
+}
+
 #[test]
 fn each_third_flip_checks_both_spaces_whole() {
     let mutator = Mutator::open_with(&Options::new(64).extra_roots(1).whole_each(3)).unwrap();

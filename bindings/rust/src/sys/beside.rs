@@ -59,6 +59,7 @@ calls! {
     gcflip_thread_try_safepoint(*mut RawThread);
     gcflip_thread_collect(*mut RawThread);
     gcflip_thread_reserve(*mut RawThread, u32);
+    gcflip_thread_size(*const RawThread);
     gcflip_beside_new(*mut RawMutator, u32, u32, u32);
     gcflip_beside_new_raw(*mut RawMutator, u32, u32, u32);
     gcflip_beside_new_pair(*mut RawMutator, u32, u32, u32, u32);
@@ -96,6 +97,7 @@ calls! {
 // The calls that return no answer.
 extern "C" {
     fn gcflip_thread_mutator(thread: *mut RawThread) -> *mut RawMutator;
+    fn gcflip_thread_growing(thread: *mut RawThread, most: u32);
     fn gcflip_thread_on_flip(thread: *mut RawThread, function: Option<extern "C" fn(*mut c_void)>, argument: *mut c_void);
     fn gcflip_thread_read(thread: *mut RawThread, counts: *mut RawThreadCounts);
     fn gcflip_thread_flip_checks(thread: *mut RawThread, checks: *mut FlipChecks);
@@ -177,6 +179,16 @@ impl Handle {
     pub fn reserve(&self, words: u32) -> u32 {
         // SAFETY: as in `safepoint`.
         self.goes_on(unsafe { gcflip_thread_reserve(self.thread, words) })
+    }
+
+    pub fn growing(&self, most: u32) {
+        // SAFETY: as in `safepoint`.
+        unsafe { gcflip_thread_growing(self.thread, most) };
+    }
+
+    pub fn size(&self) -> u32 {
+        // SAFETY: as in `safepoint`.
+        unsafe { gcflip_thread_size(self.thread) }
     }
 
     /// Returns the answer, or goes on with the panic of a follower.
@@ -297,6 +309,7 @@ results! {
 pub(super) fn all_declarations() -> Vec<String> {
     let others = [
         "gcflip_mutator *gcflip_thread_mutator(gcflip_thread *);",
+        "void gcflip_thread_growing(gcflip_thread *, uint32_t);",
         "void gcflip_thread_on_flip(gcflip_thread *, void (*)(void *), void *);",
         "void gcflip_thread_read(gcflip_thread *, gcflip_thread_counts *);",
         "void gcflip_thread_flip_checks(gcflip_thread *, gcflip_flip_checks *);",

@@ -1,4 +1,4 @@
--- So many steps were performed. Each left the same outline, and was one step less ahead.
+-- So many steps were performed beside a mutator that is asked to stop. Each left the same outline, and was one step less ahead.
 use Rattle.std.proofs.Common.{◌≡◌, ◌+◌, ◌≤◌}
 use Rattle.gc_concurrent.specs.Holders.{known_to}
 use Rattle.gcflip_beside_c.specs.Stages.{outline, ahead}

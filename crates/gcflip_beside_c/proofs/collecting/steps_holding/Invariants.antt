@@ -1,4 +1,4 @@
--- So many steps were performed. Each left the same outline, and was one step less ahead.
+-- So many steps were performed while the mutator waits. Each left the same outline, and was one step less ahead.
 use Rattle.std.proofs.Common.{◌≡◌, ◌+◌, ◌≤◌}
 use Rattle.gc_concurrent.specs.Holders.{beginning_held, heap_held, known_to}
 use Rattle.gcflip_beside_c.specs.Stages.{outline, HasRootsPlaced, ahead}
