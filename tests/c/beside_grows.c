@@ -193,7 +193,7 @@ static void make_garbage(uint32_t objects, uint32_t words)
 
 /* ---- Room that is reserved */
 
-/* What is called after a flip: the sizes that the heap has had. */
+/* The size of the heap after the last flip, and how often it has grown. */
 static struct {
     uint32_t last;
     uint32_t growths;
