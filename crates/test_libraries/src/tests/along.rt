@@ -30,6 +30,11 @@ fn says(standing: &Monitor, old: &[u64], new: &[u64], root: u64) -> bool {
     standing.says_yes(outline(old, &[2]), outline(new, &[root]))
 }
 
+/// Returns how many words a test's space has, which are few.
+fn count(words: &[u64]) -> u32 {
+    words.len().min(1000) as u32
+}
+
 /// How a checker hears of replicas and their fields: of each by itself, or of all in one run.
 #[derive(Clone, Copy)]
 enum Telling {
@@ -52,7 +57,7 @@ fn tell(standing: &mut Monitor, telling: Telling, old: &[u64], new: &[u64], fiel
         }
         Telling::InRuns => {
             standing.placed_all(old, new);
-            standing.look_all(old, new, 1, 0, new.len() as u32, 0);
+            standing.look_all(old, new, 1, 0, count(new), 0);
         }
     }
 }
@@ -174,10 +179,9 @@ struct Collected<'a> {
 }
 
 fn whole<'a>(words: &[u64], roots: &'a [u64]) -> Outline<'a> {
-    let end = words.len().min(32) as u32;
     Outline {
         size: 32,
-        end,
+        end: count(words),
         count: words.len(),
         roots,
         nils: 0,
@@ -466,8 +470,8 @@ fn empty_objects(alloc: Global, count: u64) -> Result<Vec<u64>, Fail> {
 /// Returns the outline of a full space whose root refers to its first object.
 fn full(words: &[u64]) -> Outline<'_> {
     Outline {
-        size: words.len() as u32,
-        end: words.len() as u32,
+        size: count(words),
+        end: count(words),
         ..outline(words, &[2])
     }
 }

@@ -1,6 +1,6 @@
 //! Runs of scans, and of entries: a run leaves the heap, the new space and the monitor as so many single steps do.
 
-ghost use Rattle.std.specs.Prelude.{◌≡◌, IfOk};
+ghost use Rattle.std.specs.Prelude.{◌≡◌, ◌≤◌, IfOk};
 
 use gc_check::Sequential;
 use gc_collected::{Checking, CollectedHeap, Keep};

@@ -3,4 +3,4 @@ use Rattle.std.proofs.Common.{◌≡◌}
 use Rattle.test_libraries.proofs.tests.collected.rows.play.Given as goal
 
 abbrev pub invariant-loop-place : goal.invariant-loop-place
-invariant-loop-place g l = l.heap.mutators ≡ l.initial.heap.mutators
+invariant-loop-place g l = l.heap.core.mutators ≡ l.initial.heap.core.mutators
