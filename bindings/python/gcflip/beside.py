@@ -253,7 +253,11 @@ class Mutator:
         """Lets the heap grow up to `most` words. A collection takes a larger space if `reserve` finds too little room, or if more than half of the heap was in use
         after the last flip. With 0 it does not grow. Raises OutOfRange for 2^32 or more."""
         words, = in_range((most,), [c_uint32])
-        self._turn.take(lambda: self._calls.thread_growing(self._opened(), words))
+
+        def grow() -> None:
+            self._calls.thread_growing(self._opened(), words)
+
+        self._turn.take(grow)
 
     def on_flip(self, function: Callable[[], object] | None) -> None:
         """Calls a function after each flip from now on, so that the program follows its tables by `moved`. None ends that. The call comes within `safepoint`,
@@ -446,7 +450,10 @@ class Mutator:
 
     def size(self) -> int:
         """Returns the number of words of the heap in which the mutator runs, or ran before it stopped. A flip may make it larger after `growing`."""
-        return int(self._turn.take(lambda: self._calls.thread_size(self._opened())))
+        def size() -> int:
+            return int(self._calls.thread_size(self._opened()))
+
+        return self._turn.take(size)
 
     def room(self) -> int:
         """Returns the number of free words, which is 0 while the mutator has stopped. An object takes as many as it has fields, and 2 more."""
