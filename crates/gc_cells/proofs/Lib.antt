@@ -1,0 +1,3 @@
+pub mod Carving
+pub mod Fields
+pub mod Rights
