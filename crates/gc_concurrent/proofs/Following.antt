@@ -18,9 +18,9 @@ use Rattle.gc_monitor.specs.Watch.{IsSeen}
 use Rattle.gc_monitor.specs.Events.{Saw, PlacedBy, Looked, Wrote, HasNoReplica, code_of, object_codes}
 use Rattle.gc_monitor.specs.Origins.{pairs_in}
 use Rattle.gc_monitor.specs.Claims.{IsPassedField, ShowsField}
-use Rattle.gc_monitor.proofs.Public.{all_of, codes_length, found_in_all, anywhere_tells, link_anywhere_tells, both_tells, none_replicated, old_more_tells, original_field, placed_by_tells, saw_tells, new_more_tells}
+use Rattle.gc_monitor.proofs.Public.{all_of, codes_length, found_in_all, anywhere_tells, both_tells, none_replicated, old_more_tells, original_field, placed_by_tells, saw_tells, new_more_tells}
 use Rattle.gc_concurrent.specs.Ends.{Known}
-use Rattle.gc_concurrent.specs.Internal.Told.{Event, Put, Link, Make, after_all, CouldHappen, written_by, seen_space}
+use Rattle.gc_concurrent.specs.Internal.Told.{Event, Put, Make, after_all, CouldHappen, written_by, seen_space}
 use Rattle.gc_concurrent.specs.Internal.Rule.{CatchesUp, Sat, SeesNext, seeing}
 use Rattle.gc_concurrent.specs.Internal.Following.{Follows, WroteEach}
 use Rattle.gc_concurrent.proofs.Told.{space_after}
@@ -169,7 +169,6 @@ replays s new [] t after could told tells = subst (Tells s.words new) (sym told)
 replays s new (Put a i w ∷ es) t after could told tells =
     let split = told_apart (written_by es) (a, i) t after told in
     anywhere_tells (after_all s es).words new split.0 after a i w (replays s new es t split.0 could.1 split.1 tells) (whole_seen (after_all s es) (space_after s es could.1)) could.0 split.2
-replays s new (Link a w ∷ es) t after could told tells = link_anywhere_tells (after_all s es).words new after a w (replays s new es t after could.1 told tells) (whole_seen (after_all s es) (space_after s es could.1)) could.0
 replays s new (Make h ∷ es) t after could told tells = old_more_tells (after_all s es).words new (block_words 0 (fresh_block h)) after (replays s new es t after could.1 told tells)
 
 -- where there are no replicas, no write has to be told

@@ -39,3 +39,4 @@ pub mod Reading
 pub mod Addressing
 pub mod Several
 pub mod Bounding
+pub mod PlainWords

@@ -28,7 +28,7 @@ entries_its : (m : Mine) (t : Theirs) (a i : ℕ) → IsLogged (its t) a i → I
 entries_its m t a i (zero, h) = (1, h)
 entries_its m t a i (suc k, h) = absurd h
 
-loose_of : (size : ℕ) (s : St) (r : IsConcurrent size s) → Loose r.theirs
+pub loose_of : (size : ℕ) (s : St) (r : IsConcurrent size s) → Loose r.theirs
 loose_of size s r =
     let words : List ℕ = r.mine.space.words in
     let b = (r.opened).belongs in record {

@@ -1,14 +1,15 @@
 -- The rule holds at first, where the one seat is cut in two, and where two seats become one.
-use Rattle.std.proofs.Common.{◌≡◌, ◌≢◌, ◌⊎◌, ℕ, zero, suc, eqb, ◌<◌, ◌≤◌, true, true≢false, List, [], ◌∷◌, ◌++◌, length, get_or, set, refl, ap, sym, ◌∙◌, subst, inl, inr, ⊎_elim, arith}
+use Rattle.std.proofs.Common.{◌≡◌, ◌≢◌, ◌⊎◌, ℕ, zero, suc, eqb, ◌<◌, ◌+◌, ◌-◌, ◌≤◌, true, true≢false, List, [], ◌∷◌, ◌++◌, length, get_or, set, take, drop, replicate, ext_get_or, get_or-take, get_or-drop, length-take-le, refl, ap, sym, ◌∙◌, subst, inl, inr, ⊎_elim, arith}
 use Rattle.std.proofs.lemmas.Grind.{common_steps}
-use Rattle.std.proofs.lemmas.Bool.{eqb-true, cases_Bool}
+use Rattle.std.proofs.lemmas.Bool.{eqb-true, cases_Bool, cases_lt}
 use prog.Atomic.{either}
 use lib.Seq.{set-get_or}
 use lib.ListN.{get_elem?}
 use mathlib.Core.Option.{some, none, some-injective, some-ne-none}
-use Rattle.atomic_table.specs.Table.{Splits, Joins, Allows, step, stepped, keeps, opening}
+use Rattle.atomic_table.specs.Table.{Splits, Joins, Allows, step, stepped, keeps, opening, Final, Seen}
 use Rattle.atomic_table.proofs.Lists.{at_set, set_else}
 use Rattle.gc_words.specs.Space.{IsSpace, empty_space}
+use Rattle.gc_concurrent.specs.Internal.Plain.{IsRowOfSpace, space_in}
 use Rattle.gc_words.proofs.Public.{closed_empty, space_of}
 use Rattle.gc_words.specs.Image.{objects_of}
 use Rattle.gc_model.specs.Belonging.{HasField, IsLogged, IsOpened}
@@ -20,11 +21,11 @@ use Rattle.gc_concurrent.specs.Ends.{Known, Mine, Theirs, begun_with, one_heap, 
 use Rattle.gc_concurrent.specs.Unreachable.{MayBeCopied}
 use Rattle.gc_concurrent.specs.Internal.Plans.{collection_of, plan}
 use Rattle.gc_concurrent.specs.Internal.Carrying.{FieldsLeadTo, KeepsUnreachableOut}
-use Rattle.gc_concurrent.specs.Internal.Rule.{RootWords, Sat, Seated, IsAtRest, IsConcurrent, only_writes, only_copies, both_ends, spent_view, begun_anew, tells_begin, tells_renew}
+use Rattle.gc_concurrent.specs.Internal.Rule.{RootWords, Sat, Seated, IsAtRest, IsConcurrent, Loose, only_writes, only_copies, both_ends, spent_view, begun_anew, tells_renew}
 use Rattle.gc_concurrent.proofs.Hands.{St, seat_set}
 use Rattle.gc_concurrent.proofs.Shown.{shown_anew, shown_set}
 use Rattle.gc_concurrent.proofs.Told.{caught_up}
-use Rattle.gc_concurrent.proofs.Loosely.{Leaves, loosely}
+use Rattle.gc_concurrent.proofs.Loosely.{Leaves, loose_of, loosely}
 use Rattle.gc_concurrent.proofs.Copying.{theirs_keep}
 
 snoc_cases : (l : List Known) (a b : Known) (j : ℕ) → get_elem? (l ++ a ∷ []) j ≡ some b → (get_elem? l j ≡ some b) ⊎ ((j ≡ length l) × (a ≡ b))
@@ -126,93 +127,76 @@ fresh_carries heap fields = record { begun = refl; behind = omega arith; fields 
 pub empty_shaped : (size : ℕ) → 1 ≤ size → size ≤ 4294967295 → IsSpace (empty_space size)
 empty_shaped size low high = (space_of size (0 ∷ []) [] (omega arith) low high refl refl).0
 
--- the heap with which cells begin
-abbrev pub empty_heap_of : ℕ → HeapWords
-empty_heap_of size = one_heap (empty_space size) []
+-- ---- cells begin with the words of a plain space, which are a heap with these roots
 
--- cells of zeros
-pub opens_rule : (size : ℕ) (words : List ℕ) → IsSpace (empty_space size) → length words ≡ size → ((k : ℕ) → get_or words k 0 ≡ 0)
-    → IsConcurrent size (opening words [] (opening_view (empty_heap_of size) 1))
-opens_rule size words space wide blank = record {
-  mine = opening_mine (empty_heap_of size);
-  theirs = opening_theirs (empty_heap_of size) size 1;
-  seen = 0 ∷ [];
-  writer = 0;
-  copier = 0;
-  wide = wide;
-  sized = refl;
-  older = refl;
-  now = λ k l. blank k ∙ sym (first k l);
-  free = λ k l h. blank k;
-  space = space;
-  closed = closed_empty size 0;
-  wanted = λ a h. absurd h;
-  opened = fresh_opened (empty_heap_of size);
-  carries = fresh_carries (empty_heap_of size) (λ a o k. absurd k);
-  fits = omega arith;
-  rests = λ _. at_rest (empty_heap_of size);
-  seats = λ j u e. let x = opening_seats (opening_view (empty_heap_of size) 1) j u e in
-      ((λ _. (x.0, ap (λ (z : Known). z.mine) (sym x.1))), λ _. (x.0, ap (λ (z : Known). z.theirs) (sym x.1)));
-  told = caught_up (opening_mine (empty_heap_of size)) space refl;
-  shown = λ j u e _. ap (λ (z : Known). z.seen) (sym (opening_seats (opening_view (empty_heap_of size) 1) j u e).1);
-}
+read_before : (row : List ℕ) (end k : ℕ) → end ≤ length row → k < length (take end row) → get_or row k 0 ≡ get_or (take end row) k 0
+read_before row end k within low = sym (get_or-take end row k 0 (let long : length (take end row) ≡ end = length-take-le end row within in omega arith))
+
+read_behind : (row : List ℕ) (end k : ℕ) → end ≤ length row → drop end row ≡ replicate (length row - end) 0 → length (take end row) ≤ k → k < length row → get_or row k 0 ≡ 0
+read_behind row end k within free high low =
+    let from : end ≤ k = (let long : length (take end row) ≡ end = length-take-le end row within in omega arith) in
+    let place : end + (k - end) ≡ k = omega arith in
+    ap (λ n. get_or row n 0) (sym place) ∙ sym (get_or-drop end row (k - end) 0) ∙ ap (λ ws. get_or ws (k - end) 0) free ∙ zero_of (length row - end) (k - end)
   where
-    first : (k : ℕ) → k < 1 → get_or {A = ℕ} (0 ∷ []) k 0 ≡ 0
-    first zero l = refl
-    first (suc k) l = absurd (omega arith)
+    zero_of : (n i : ℕ) → ◌≡◌ {A = ℕ} (get_or (replicate n 0) i 0) 0
+    zero_of zero i = refl
+    zero_of (suc n) zero = refl
+    zero_of (suc n) (suc i) = zero_of n i
 
--- ---- a collection begins in cells that have a heap
-
-begin_keeps : (size : ℕ) (s : St) (r : IsConcurrent size s) (id : ℕ) (v : Known) (c : List (ℕ × RootWords)) (roots : List ℕ) → get_elem? s.views id ≡ some v → v.writes ≡ true → v.copies ≡ true
-    → IsHeap (one_heap r.mine.space roots) → IsConcurrent size (stepped s 0 (get_or s.words 0 0) id c (opening_view (one_heap r.mine.space roots) 1) keeps)
-begin_keeps size s r id v c roots here writes copies sound =
-    let heap : HeapWords = one_heap r.mine.space roots in
-    let wrote = (r.seats id v here).0 writes in
-    let copied = (r.seats id v here).1 copies in
-    subst (λ (ws : List ℕ). IsConcurrent size (record { words = ws; homes = s.homes; views = set s.views id (opening_view heap 1) })) (sym (set-get_or s.words 0 0)) (record {
+pub opens_rule : (size end : ℕ) (row starts roots : List ℕ) → IsRowOfSpace row end starts → length row ≡ size → IsHeap (one_heap (space_in row end) roots)
+    → IsConcurrent size (opening row [] (opening_view (one_heap (space_in row end) roots) 1))
+opens_rule size end row starts roots plain wide sound =
+    let heap : HeapWords = one_heap (space_in row end) roots in
+    record {
       mine = opening_mine heap;
       theirs = opening_theirs heap heap.space.size 1;
       seen = heap.space.words;
-      writer = id;
-      copier = id;
-      wide = r.wide;
-      sized = r.sized;
-      older = r.sized;
-      now = r.now;
-      free = r.free;
-      space = r.space;
-      closed = r.closed;
+      writer = 0;
+      copier = 0;
+      wide = wide;
+      sized = wide;
+      older = wide;
+      now = λ k l. read_before row end k plain.within l;
+      free = λ k l h. read_behind row end k plain.within plain.free l (omega arith);
+      space = plain.space;
+      closed = plain.closed;
       wanted = λ a h. absurd h;
       opened = fresh_opened heap;
       carries = fresh_carries heap (begins_kept heap sound).fields;
-      fits = (r.space).end_low;
+      fits = (plain.space).end_low;
       rests = λ _. at_rest heap;
-      seats = seat_set (Seated id id (opening_mine heap) (opening_theirs heap heap.space.size 1)) s.views id (opening_view heap 1) ((λ _. (refl, refl)), λ _. (refl, refl))
-          (λ j u other e. ((λ p. absurd (other (((r.seats j u e).0 p).0 ∙ sym wrote.0))), λ p. absurd (other (((r.seats j u e).1 p).0 ∙ sym copied.0))));
-      told = caught_up (opening_mine heap) r.space refl;
-      shown = shown_anew heap.space.words r.writer r.copier id r.mine r.theirs s.views v (opening_view heap 1) here copies refl r.seats;
-    })
+      seats = λ j u e. let x = opening_seats (opening_view heap 1) j u e in
+          ((λ _. (x.0, ap (λ (z : Known). z.mine) (sym x.1))), λ _. (x.0, ap (λ (z : Known). z.theirs) (sym x.1)));
+      told = caught_up (opening_mine heap) plain.space refl;
+      shown = λ j u e _. ap (λ (z : Known). z.seen) (sym (opening_seats (opening_view heap 1) j u e).1);
+    }
+
+-- the collector knows then that its collection belongs to some heap
+pub opens_loose : (size end : ℕ) (row starts roots : List ℕ) → IsRowOfSpace row end starts → length row ≡ size → IsHeap (one_heap (space_in row end) roots)
+    → Loose (opening_theirs (one_heap (space_in row end) roots) (length row) 1)
+unfolding opens_rule
+opens_loose size end row starts roots plain wide sound = loose_of size (opening row [] (opening_view (one_heap (space_in row end) roots) 1)) (opens_rule size end row starts roots plain wide sound)
+
+-- cells that no step has changed give back the row with which they began
+pub gives_back : (size id end : ℕ) (row starts roots back : List ℕ) (v : Known) → IsRowOfSpace row end starts → length row ≡ size → v ≡ opening_view (one_heap (space_in row end) roots) 1
+    → Final (Seen (IsConcurrent size) id v) back [] → back ≡ row
+gives_back size id end row starts roots back v plain wide is given =
+    let s : St = given.0 in
+    let r : IsConcurrent size s = given.1.0 in
+    let words : s.words ≡ back = given.2 in
+    let mine : v.mine ≡ r.mine = ((r.seats id v given.1.1).0 (ap (λ (z : Known). z.writes) is)).1 in
+    let same : r.mine.space.words ≡ take end row = ap (λ (m : Mine). m.space.words) (sym mine ∙ ap (λ (z : Known). z.mine) is) in
+    let long : length s.words ≡ length row = r.wide ∙ sym wide in
+    sym words ∙ ext_get_or 0 s.words row long (λ k low. ⊎_elim
+    (λ (l : k < length (take end row)).
+    r.now k (subst (λ (ws : List ℕ). k < length ws) (sym same) l) ∙ ap (λ ws. get_or ws k 0) same ∙ sym (read_before row end k plain.within l))
+    (λ (h : length (take end row) ≤ k).
+    r.free k (subst (λ (ws : List ℕ). length ws ≤ k) (sym same) h) (let w = r.wide in omega arith) ∙ sym (read_behind row end k plain.within plain.free h (omega arith)))
+    (cases_lt k (length (take end row))))
 
 -- a word that is exchanged for itself
 same_word : (a n : ℕ) → either (eqb n a) a n ≡ n
 same_word a n = grind (arith, common_steps, eqb-true, cases_Bool)
-
-abbrev BeginsAs : RootWords → Sat → ℕ → Sat → Type 0
-BeginsAs roots me found me' = (given : RootWords) → some roots ≡ some given → me' ≡ (opening_view (one_heap me.0.mine.space given.items) 1, me.1)
-
-pub begins_rule : (slots size id : ℕ) (me : Sat) (roots : RootWords) → me.0.writes ≡ true → me.0.copies ≡ true → IsHeap (one_heap me.0.mine.space roots.items)
-    → Allows (IsConcurrent size) slots id me 0 (λ n. either (eqb n 0) 0 n) (tells_begin (step slots 0 0 0 (some roots)) me)
-begins_rule slots size id me roots writes copies sound s r _ here _ =
-    let to : me.0.mine ≡ r.mine = ((r.seats id me.0 here).0 writes).1 in
-    let began : Leaves size s 0 id me (BeginsAs roots me) = (
-      opening_view (one_heap r.mine.space roots.items) 1,
-      keeps,
-      tt,
-      begin_keeps size s r id me.0 me.1 roots.items here writes copies (subst (λ (m : Mine). IsHeap (one_heap m.space roots.items)) to sound),
-      λ given e. let one : roots ≡ given = some-injective roots given e in λ k. (opening_view (one_heap (sym to k).space (one k).items) 1, me.1),
-    ) in
-    let whole = loosely size s 0 id me (BeginsAs roots me) here began in
-    (whole.0, whole.1, whole.2, subst (λ (n : ℕ). IsConcurrent size (stepped s 0 n id me.1 whole.0 whole.1)) (sym (same_word 0 (get_or s.words 0 0))) whole.3, whole.4)
 
 -- ---- a collection begins anew
 

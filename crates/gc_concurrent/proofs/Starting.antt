@@ -11,7 +11,7 @@ use Rattle.gc_words.specs.declared.header.Header.{Header}
 use Rattle.gc_words.proofs.Public.{field_beside, field_read, laid_out_words, link_written, objects_apart, placed_beside, some_of}
 use Rattle.gc_model.specs.Members.{In}
 use Rattle.gc_model.proofs.Public.{in_left, in_right}
-use Rattle.gc_concurrent.specs.Internal.Told.{Event, Put, Link, Make, after_all, CouldHappen, written_by}
+use Rattle.gc_concurrent.specs.Internal.Told.{Event, Put, Make, after_all, CouldHappen, written_by}
 use Rattle.gc_concurrent.proofs.Told.{field_stays, long_after, space_after}
 
 -- ---- starts that were there before
@@ -31,7 +31,6 @@ made_start_back s h can a start = ⊎_elim (λ e. inl e) (λ other. inr (sym (ap
 pub starts_back : (s : SpaceWords) (es : List Event) → CouldHappen s es → (a : ℕ) → a < length s.words → is_start (after_all s es).words a ≡ true → is_start s.words a ≡ true
 starts_back s [] could a low start = start
 starts_back s (Put c j w ∷ es) could a low start = starts_back s es could.1 a low (field_start_back (after_all s es) c j w (space_after s es could.1) could.0 a start)
-starts_back s (Link c w ∷ es) could a low start = starts_back s es could.1 a low (sym (link_start (after_all s es) c w (space_after s es could.1) could.0 a) ∙ start)
 starts_back s (Make h ∷ es) could a low start = ⊎_elim
     (λ (e : end_of (after_all s es) ≡ a). absurd (let l = long_after s es in omega arith))
     (λ still. starts_back s es could.1 a low still)
@@ -79,9 +78,6 @@ field_unwritten s (Put c j w ∷ es) could a i has none =
     let fields : i ≡ j = (let e' : field_place a i ≡ field_place c j = e in omega arith) in
     none (in_right (a, i) (written_by es) ((c, j) ∷ []) (inl (λ k. (sym is k, sym fields k)))))
     ∙ field_unwritten s es could.1 a i has (λ h. none (in_left (a, i) (written_by es) ((c, j) ∷ []) h))
-field_unwritten s (Link c w ∷ es) could a i has none =
-    get_or-set_other (after_all s es).words (link_place c) (field_place a i) w 0 (λ e. link_no_field (after_all s es).words c a i (space_after s es could.1).walked could.0 (field_stays s es a i could.1 has) e)
-    ∙ field_unwritten s es could.1 a i has none
 field_unwritten s (Make h ∷ es) could a i has none =
     get_or_append_left (after_all s es).words (block_words 0 (fresh_block h)) 0 (field_place a i) (field_read (after_all s es).words a i (space_after s es could.1).walked (field_stays s es a i could.1 has)).within
     ∙ field_unwritten s es could.1 a i has none

@@ -2,7 +2,7 @@
 use Rattle.std.proofs.Common.{◌≡◌, ℕ, sym, ap, ◌∙◌}
 use Rattle.std.specs.declared.alloc.Global.{Global}
 use Rattle.atomic_table.specs.Seated.{TableId}
-use Rattle.atomic_table.specs.declared.owned.Table.{Table}
+use Rattle.gc_cells.specs.declared.table.Table.{Table}
 use Rattle.gc_concurrent.specs.declared.cells.CellsKey.{CellsKey}
 use Rattle.gc_concurrent.specs.declared.cells.CellsRule.{CellsRule}
 use Rattle.gc_concurrent.specs.Ends.{Known}

@@ -10,8 +10,8 @@ use Rattle.gc_words.specs.Spelling.{block_words}
 use Rattle.gc_words.specs.declared.header.Header.{Header}
 use Rattle.gc_words.proofs.Public.{field_read, field_written, field_block, field_beside, header_read, link_written, none_at_end, placed, placed_beside, placed_block}
 use Rattle.gc_concurrent.specs.Ends.{Mine}
-use Rattle.gc_concurrent.specs.Internal.Rule.{wrote, made, linked_to}
-use Rattle.gc_concurrent.specs.Internal.Told.{Event, Put, Link, Make, after_all, CouldHappen, written_by, seen_space, ComesFromSeen}
+use Rattle.gc_concurrent.specs.Internal.Rule.{wrote, made}
+use Rattle.gc_concurrent.specs.Internal.Told.{Event, Put, Make, after_all, CouldHappen, written_by, seen_space, ComesFromSeen}
 
 -- ---- lists
 
@@ -103,31 +103,26 @@ seen_is_space s (e ∷ es) c = seen_is_space s es c.1
 pub space_after : (s : SpaceWords) (es : List Event) → CouldHappen s es → IsSpace (after_all s es)
 space_after s [] could = could
 space_after s (Put a i w ∷ es) could = (field_written (after_all s es) a i w (space_after s es could.1) could.0).0
-space_after s (Link a w ∷ es) could = (link_written (after_all s es) a w (space_after s es could.1) could.0).0
 space_after s (Make h ∷ es) could = (placed (after_all s es) h could.0).0
 
 size_after : (s : SpaceWords) (es : List Event) → (after_all s es).size ≡ s.size
 size_after s [] = refl
 size_after s (Put a i w ∷ es) = size_after s es
-size_after s (Link a w ∷ es) = size_after s es
 size_after s (Make h ∷ es) = size_after s es
 
 pub long_after : (s : SpaceWords) (es : List Event) → length s.words ≤ length (after_all s es).words
 long_after s [] = omega arith
 long_after s (Put a i w ∷ es) = omega (arith, long_after s es, length-set (after_all s es).words (field_place a i) w)
-long_after s (Link a w ∷ es) = omega (arith, long_after s es, length-set (after_all s es).words (link_place a) w)
 long_after s (Make h ∷ es) = omega (arith, long_after s es, length-append (after_all s es).words (block_words 0 (fresh_block h)))
 
 pub header_stays : (s : SpaceWords) (es : List Event) (a : ℕ) (g : Header) → CouldHappen s es → header_at s.words a ≡ Some g → header_at (after_all s es).words a ≡ Some g
 header_stays s [] a g could is = is
 header_stays s (Put c j w ∷ es) a g could is = put_header (after_all s es) c j w (space_after s es could.1) could.0 a ∙ header_stays s es a g could.1 is
-header_stays s (Link c w ∷ es) a g could is = ap header_of (link_block (after_all s es) c w (space_after s es could.1) could.0 a) ∙ header_stays s es a g could.1 is
 header_stays s (Make h ∷ es) a g could is = make_header (after_all s es) h could.0 a g (header_stays s es a g could.1 is)
 
 pub field_stays : (s : SpaceWords) (es : List Event) (a i : ℕ) → CouldHappen s es → IsSome (field_at s.words a i) → IsSome (field_at (after_all s es).words a i)
 field_stays s [] a i could is = is
 field_stays s (Put c j w ∷ es) a i could is = put_field (after_all s es) c j w (space_after s es could.1) could.0 a i (field_stays s es a i could.1 is)
-field_stays s (Link c w ∷ es) a i could is = ap (λ o. is_some (field_in o i)) (link_block (after_all s es) c w (space_after s es could.1) could.0 a) ∙ field_stays s es a i could.1 is
 field_stays s (Make h ∷ es) a i could is = make_field (after_all s es) h could.0 a i (field_stays s es a i could.1 is)
 
 -- ---- a field is seen anew
@@ -148,20 +143,6 @@ replayed_put s a i y c j w es could has ih = ⊎_elim
           (λ other. inr (ap (λ z. with_field_at z c j w) e
           ∙ ap (λ ws. record (after_all s es) { words = ws }) (set_swap (after_all s es).words (field_place a i) (field_place c j) y w other)))
           (cases_eq (field_place a i) (field_place c j)),
-    ))
-    ih.1
-
-replayed_link : (s : SpaceWords) (a i y c w : ℕ) (es : List Event) → CouldHappen s (Link c w ∷ es) → IsSome (field_at s.words a i) → Replayed s a i y es → Replayed s a i y (Link c w ∷ es)
-replayed_link s a i y c w es could has ih = ⊎_elim
-    (λ e. ((subst (λ (z : SpaceWords). is_start z.words c ≡ true) (sym e) could.0, ih.0), inl (ap (λ z. with_link z c w) e)))
-    (λ e. (
-      (subst (λ (z : SpaceWords). is_start z.words c ≡ true) (sym e) (put_start (after_all s es) a i y (space_after s es could.1) (field_stays s es a i could.1 has) c could.0), ih.0),
-      ⊎_elim
-          (λ same. inl (ap (λ z. with_link z c w) e
-          ∙ ap (λ ws. record (after_all s es) { words = ws }) (ap (λ p. set (set (after_all s es).words p y) (link_place c) w) same ∙ set-set (after_all s es).words (link_place c) y w)))
-          (λ other. inr (ap (λ z. with_link z c w) e
-          ∙ ap (λ ws. record (after_all s es) { words = ws }) (set_swap (after_all s es).words (field_place a i) (link_place c) y w other)))
-          (cases_eq (field_place a i) (link_place c)),
     ))
     ih.1
 
@@ -187,7 +168,6 @@ replayed_make s a i y h es could has ih =
 replayed : (s : SpaceWords) (a i y : ℕ) (es : List Event) → CouldHappen s es → IsSome (field_at s.words a i) → Replayed s a i y es
 replayed s a i y [] could has = ((field_written s a i y could has).0, inr refl)
 replayed s a i y (Put c j w ∷ es) could has = replayed_put s a i y c j w es could has (replayed s a i y es could.1 has)
-replayed s a i y (Link c w ∷ es) could has = replayed_link s a i y c w es could has (replayed s a i y es could.1 has)
 replayed s a i y (Make h ∷ es) could has = replayed_make s a i y h es could has (replayed s a i y es could.1 has)
 
 -- a field of the words that were seen becomes what it is now
@@ -233,18 +213,6 @@ puts_behind s h (Put c j w ∷ es) can could none =
       ap (λ z. with_field_at z c j w) ih.1
           ∙ ap (λ ws. record (after_all s es) { words = ws }) (set_front (after_all s es).words (block_words 0 (fresh_block h)) (field_place c j) w (field_read (after_all s es).words c j space.walked could.0).within),
     )
-puts_behind s h (Link c w ∷ es) can could none =
-    let same : length (after_all s es).words ≡ length s.words = omega (arith, none, length-set (after_all s es).words (link_place c) w) in
-    let linked = puts_behind s h es can could.1 same in
-    let space = space_after s es could.1 in
-    let can' : CanPlace (after_all s es) h = record { shaped = space; header = can.header; room = omega (arith, can.room, size_after s es, same) } in (
-      (subst (λ (z : SpaceWords). is_start z.words c ≡ true) (sym linked.1) (make_start (after_all s es) h can' c could.0), linked.0),
-      ap (λ z. with_link z c w) linked.1
-          ∙ ap (λ ws. record (after_all s es) { words = ws }) (set_front (after_all s es).words (block_words 0 (fresh_block h)) (link_place c) w (link_in (after_all s es) c space could.0)),
-    )
-  where
-    link_in : (s : SpaceWords) (c : ℕ) → IsSpace s → is_start s.words c ≡ true → link_place c < length s.words
-    link_in s c space start = let r = header_read s.words c space.walked start in omega (arith, r.within)
 
 made_first : (s : SpaceWords) (es : List Event) → CouldHappen s es → length s.words < length (after_all s es).words → MadeFirst s es
 made_first s [] could less = absurd (omega arith)
@@ -257,16 +225,6 @@ made_first s (Put c j w ∷ es) could less =
       could = (subst (λ (z : SpaceWords). IsSome (field_at z.words c j)) (sym ih.same) could.0, ih.could);
       same = ap (λ z. with_field_at z c j w) ih.same;
       written = ap (λ xs. xs ++ (c, j) ∷ []) ih.written;
-    }
-made_first s (Link c w ∷ es) could less =
-    let ih = made_first s es could.1 (omega (arith, less, length-set (after_all s es).words (link_place c) w)) in
-    record {
-      header = ih.header;
-      can = ih.can;
-      rest = Link c w ∷ ih.rest;
-      could = (subst (λ (z : SpaceWords). is_start z.words c ≡ true) (sym ih.same) could.0, ih.could);
-      same = ap (λ z. with_link z c w) ih.same;
-      written = ih.written;
     }
 made_first s (Make g ∷ es) could less = ⊎_elim
     (λ more.
@@ -306,14 +264,6 @@ put_told seen m a i w has is = record {
   could = (subst (λ (z : SpaceWords). IsSome (field_at z.words a i)) is.now has, is.could);
   now = ap (λ z. with_field_at z a i w) is.now;
   logged = λ e. ap (λ xs. xs ++ (a, i) ∷ []) (is.logged e) ∙ sym (cond-true m.logs (m.log ++ (a, i) ∷ []) m.log e);
-}
-
-pub linked_told : (seen : List ℕ) (m : Mine) (a w : ℕ) → is_start m.space.words a ≡ true → ComesFromSeen seen m → ComesFromSeen seen (linked_to a w m)
-linked_told seen m a w start is = record {
-  events = Link a w ∷ is.events;
-  could = (subst (λ (z : SpaceWords). is_start z.words a ≡ true) is.now start, is.could);
-  now = ap (λ z. with_link z a w) is.now;
-  logged = is.logged;
 }
 
 pub made_told : (seen : List ℕ) (m : Mine) (h : Header) → CanPlace m.space h → ComesFromSeen seen m → ComesFromSeen seen (made h m)

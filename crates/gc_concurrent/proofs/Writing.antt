@@ -25,12 +25,12 @@ use Rattle.gc_model.proofs.Public.{Evolves, field_stays, lookup_left, lookup_wri
 use Rattle.gc_copy.proofs.Public.{words_numbers}
 use Rattle.gc_concurrent.specs.Ends.{Known, Mine, Theirs}
 use Rattle.gc_concurrent.specs.Internal.Plans.{collection_of, plan}
-use Rattle.gc_concurrent.specs.Internal.Rule.{RootWords, IsAtRest, IsConcurrent, wrote, made, linked_to, referring, Sat, tells_get, tells_put, tells_new, tells_link, tells_refer}
+use Rattle.gc_concurrent.specs.Internal.Rule.{RootWords, IsAtRest, IsConcurrent, wrote, made, referring, Sat, tells_get, tells_put, tells_new, tells_refer}
 use Rattle.gc_concurrent.specs.Unreachable.{MayBeCopied}
 use Rattle.gc_concurrent.specs.Internal.Carrying.{FieldsLeadTo}
 use Rattle.gc_concurrent.proofs.Hands.{St, seats_mine, same}
 use Rattle.gc_concurrent.proofs.Shown.{shown_set}
-use Rattle.gc_concurrent.proofs.Told.{put_told, linked_told, made_told}
+use Rattle.gc_concurrent.proofs.Told.{put_told, made_told}
 use Rattle.gc_concurrent.proofs.Keeping.{kept_mine, kept_referring, set_leads, push_leads}
 
 -- ---- a word is read
@@ -326,63 +326,11 @@ news slots size id me h writes can s r _ here _ =
       (λ g hd e. λ k. (record me.0 { mine = made (same_header g h hd can.header e k) (sym to k) }, me.1), subst (λ (m : Mine). IsClosed m.space.words []) (sym to) r.closed),
     )
 
--- ---- a link is written
-
 -- the word of a link lies within the space
 pub link_within : (s : SpaceWords) (a : ℕ) → IsSpace s → is_start s.words a ≡ true → link_place a < length s.words
 link_within s a space start =
     let b : (b : Block) × (block_at s.words a ≡ Some b) = some_of (block_at s.words a) start in
     let fits = (stands_in s.words a b.0 space.walked b.1).fits in omega arith
-
-link_keeps : (size : ℕ) (s : St) (r : IsConcurrent size s) (id : ℕ) (v : Known) (c : List (ℕ × RootWords)) (a w : ℕ) → get_elem? s.views id ≡ some v → v.writes ≡ true
-    → is_start r.mine.space.words a ≡ true → IsConcurrent size (stepped s (link_place a) w id c (record v { mine = linked_to a w r.mine }) keeps)
-link_keeps size s r id v c a w here writes start =
-    let wide = r.wide in let sized = r.sized in
-    let sp : SpaceWords = r.mine.space in
-    let k : ℕ = link_place a in
-    let in_mine : k < length sp.words = link_within sp a r.space start in
-    let high : length sp.words ≤ sp.size = (r.space).end_high in
-    let m' : Mine = linked_to a w r.mine in
-    let wrote = link_written sp a w r.space start in
-    let objects : objects_of m'.space.words ≡ objs r.mine = ap (λ (g : Graph). g.objects) (graph_link sp a w [] r.space start) in
-    let evolves : Evolves (objs r.mine) (objs m') (λ a i. ⊥) = subst (λ os. Evolves (objs r.mine) os (λ a i. ⊥)) (sym objects) (same_evolves (objs r.mine)) in
-    record {
-      mine = m';
-      theirs = r.theirs;
-      seen = r.seen;
-      writer = r.writer;
-      copier = r.copier;
-      wide = length-set s.words k w ∙ wide;
-      sized = sized;
-      older = r.older;
-      now = λ j l. dite (ℕ_discrete j k)
-          (λ e. subst (λ (z : ℕ). get_or (set s.words k w) z 0 ≡ get_or (set sp.words k w) z 0) (sym e) (get_or-set_same s.words k w 0 (omega arith) ∙ sym (get_or-set_same sp.words k w 0 in_mine)))
-          (λ ne. get_or-set_other s.words k j w 0 ne ∙ (r.now j (omega (arith, length-set sp.words k w)) ∙ sym (get_or-set_other sp.words k j w 0 ne)));
-      free = λ j l h. get_or-set_other s.words k j w 0 (λ e. omega (arith, length-set sp.words k w)) ∙ r.free j (omega (arith, length-set sp.words k w)) h;
-      space = wrote.0;
-      closed = closed_objects sp.words m'.space.words [] wrote.1 r.closed;
-      wanted = λ x g. let o = r.wanted x g in let still = evolves x o.0 o.1 in (still.now, still.found);
-      opened = opened_still r.mine m' r.theirs evolves refl r.opened;
-      carries = kept_mine r.mine r.theirs r.carries m' refl (let l = length-set sp.words k w in omega arith)
-          (subst (FieldsLeadTo (MayBeCopied r.mine.base)) (sym objects) r.carries.fields);
-      fits = (let l = length-set sp.words k w in let f = r.fits in omega arith);
-      rests = λ e. let k = r.rests e in record { logged = k.logged; copied = k.copied; due = k.due; wanted = k.wanted };
-      seats = seats_mine r.writer r.copier id r.mine m' r.theirs s.views v here writes r.seats;
-      told = linked_told r.seen r.mine a w start r.told;
-      shown = shown_set r.seen s.views id (record v { mine = m' }) (r.shown id v here) r.shown;
-    }
-
-links : (slots size id : ℕ) (me : Sat) (a w : ℕ) → me.0.writes ≡ true → is_start me.0.mine.space.words a ≡ true
-    → Allows (IsConcurrent size) slots id me (link_place a) (λ _. w) (λ _. tells_link (step slots (link_place a) w 0 none) me w)
-links slots size id me a w writes start s r _ here _ =
-    let own = (r.seats id me.0 here).0 writes in
-    let to : me.0.mine ≡ r.mine = own.1 in (
-      record me.0 { mine = linked_to a w r.mine },
-      keeps,
-      tt,
-      link_keeps size s r id me.0 me.1 a w here writes (subst (λ (m : Mine). is_start m.space.words a ≡ true) to start),
-      λ x e _. let one : a ≡ x = omega arith in λ k. (record me.0 { mine = linked_to (one k) w (sym to k) }, me.1),
-    )
 
 -- ---- a reference is made from an address
 
@@ -425,11 +373,6 @@ refers slots size id me k writes s r _ here _ =
     )
 
 -- ---- the same for callers, who have the place and the word by equations
-
-pub links_at : (slots size id : ℕ) (me : Sat) (a k w : ℕ) → k ≡ link_place a → me.0.writes ≡ true → is_start me.0.mine.space.words a ≡ true
-    → Allows (IsConcurrent size) slots id me k (λ _. w) (λ _. tells_link (step slots k w 0 none) me w)
-links_at slots size id me a k w is writes start =
-    subst (λ (z : ℕ). Allows (IsConcurrent size) slots id me z (λ _. w) (λ _. tells_link (step slots z w 0 none) me w)) (sym is) (links slots size id me a w writes start)
 
 pub puts_at : (slots size id : ℕ) (me : Sat) (a i k w : ℕ) (b : Block) → k ≡ field_place a i → me.0.writes ≡ true
     → block_at me.0.mine.space.words a ≡ Some b → IsSome (field_at me.0.mine.space.words a i) → IsFieldWord me.0.mine.space.words b.header w → RefersTo (MayBeCopied me.0.mine.base) (field_value b.header w)

@@ -1,5 +1,6 @@
 -- Definitions that only private contracts and proofs need. They promise nothing to callers.
 pub mod Codes
+pub mod Plain
 pub mod Plans
 pub mod Carrying
 pub mod Told
@@ -15,3 +16,4 @@ pub mod Props
 pub mod Spares
 pub mod Settled
 pub mod Handshakes
+pub mod Openings

@@ -1,6 +1,5 @@
-//! The words of a space as cells, each of which changes in one atomic step. The collector makes the next space in them, and they then serve the
-//! mutator from one flip to the next.
-use atomic_table::{Seat, Table, TableRule};
+//! The words of a space as cells, each of which changes in one atomic step. They serve a mutator from one flip to the next.
+use gc_cells::{Seat, Table, TableRule};
 use std::alloc::Global;
 use std::marker::Model;
 
@@ -21,24 +20,25 @@ impl Model for CellsView {
     ghost view = { λ _. opening_view no_heap 0 };
 }
 
-/// What cells begin with: the size of the space, which is empty.
+/// What cells begin with, beside their words: the size of the space, the end of its objects, and the roots of its heap.
 #[derive(Drop)]
 pub struct CellsKey {
     pub size: u32,
+    pub end: u32,
+    pub roots: Vec<u64>,
 }
 
 /// The rule of the cells, which holds between any two steps on them.
 pub struct CellsRule;
 
 impl TableRule<Vec<u64>, CellsView, CellsKey> for CellsRule {
-    ghost use Rattle.gc_words.specs.Space.{empty_space};
-    ghost use Rattle.std.specs.Prelude.{[]};
     ghost use Rattle.gc_concurrent.specs.Ends.{one_heap, opening_view};
+    ghost use Rattle.gc_concurrent.specs.Internal.Plain.{space_in};
     ghost use Rattle.gc_concurrent.specs.Internal.Rule.{IsConcurrent};
 
     ghost holds = { λ k. IsConcurrent k.size };
 
-    ghost first = { λ k. opening_view (one_heap (empty_space k.size) []) 1 };
+    ghost first = { λ k words. opening_view (one_heap (space_in words k.end) k.roots.items) 1 };
 }
 
 /// The cells with their memory. Both ends own them. They have no slots: a step names roots to its `Play` by the type of what a slot would hold.

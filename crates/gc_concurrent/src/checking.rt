@@ -18,7 +18,7 @@ use gc_words::{ImageRef, no_fault_where_certified};
 use std::alloc::Global;
 
 /// Loads the words of a space up to its end, one by one. Allocates once.
-pub(crate) fn loaded(
+fn loaded(
     alloc: Global,
     cells: &Cells,
     seat: &mut CellsEnd,
@@ -53,16 +53,6 @@ impl Copier {
     {
         let cells = &*self.cells;
         loaded(alloc, cells, &mut self.seat, end)
-    }
-
-    /// Loads the words of the new space. Allocates once.
-    fn new_words(&mut self, alloc: Global) -> Result<Vec<u64>, NoMemory>
-        ensures words { IfOk result (λ words. words.items ≡ self.old.space.words) }
-        ensures same { self.new.seat.me ≡ self.old.seat.me }
-        ensures row { (self.new.seat.table_id ≡ self.old.seat.table_id) × (self.new.size ≡ self.old.size) }
-        ensures space { self.new.space ≡ self.old.space }
-    {
-        self.space.words(alloc)
     }
 }
 
@@ -161,21 +151,22 @@ impl Held {
         self.copier.look();
         let end = self.end;
         let words = self.copier.old_words(alloc, end)?;
-        let placed = self.copier.new_words(alloc)?;
-        let new_end = self.copier.space.end();
+        let held = &*self;
+        let placed = held.copier.space.words();
+        let new_end = held.copier.space.end();
         // Each object takes two words or more.
-        let pairs = linked_pairs(alloc, placed.as_slice(), new_end / 2)?;
+        let pairs = linked_pairs(alloc, placed, new_end / 2)?;
         let old = ImageRef {
-            size: self.copier.size,
+            size: held.copier.size,
             end,
             words: words.as_slice(),
-            roots: self.roots.as_slice(),
+            roots: held.roots.as_slice(),
             raws: true,
         };
         let new = ImageRef {
-            size: self.copier.space.size(),
+            size: held.copier.space.size(),
             end: new_end,
-            words: placed.as_slice(),
+            words: placed,
             roots: moved,
             raws: true,
         };

@@ -23,12 +23,13 @@ ghost use Rattle.gc_concurrent.specs.Internal.Knowing.{Knows};
 ghost use Rattle.gc_concurrent.specs.Works.{WhereDone, WhereNoRoom};
 ghost use Rattle.gc_concurrent.specs.Internal.Props.{replicas_prop, claims_prop, space_prop};
 ghost use Rattle.gc_concurrent.specs.Internal.Spares.{claims_spared};
+ghost use Rattle.gc_monitor.specs.Events.{Freed};
 
 use crate::cells::{Cells, CellsEnd};
 use crate::moves::half;
 use crate::next::NextSpace;
 use crate::plays::{Applied, Flipped, Left, Passed, Placed, Renewed, Rooted, Scanned};
-use crate::spare::{Former, Spare, zeros_for, zeros_of};
+use crate::spare::{Former, Spare};
 use crate::watching::{compare, place, walk};
 use gc_graph::{NoMemory, object_words};
 use gc_monitor::Monitor;
@@ -195,6 +196,36 @@ fn clear_claims(claims: &mut Vec<u32>, are_none: bool)
     }
 }
 
+/// The collection begins anew, in a new space of `size` words: no object has a replica, and the standing checker forgets those that were seen.
+pub(crate) fn restart(
+    cells: &Cells,
+    seat: &mut CellsEnd,
+    claims: &mut Vec<u32>,
+    standing: &mut Monitor,
+    are_none: bool,
+    size: u32,
+)
+    requires cells { seat.old.table_id ≡ cells.now.shared.table_id }
+    requires some { 0 < cells.now.shared.table_id.words }
+    requires key { cells.now.shared.key.size ≡ cells.now.shared.table_id.words }
+    requires copies { seat.old.me.0.copies ≡ true }
+    requires low { 1 ≤ size }
+    requires none { IsTrue are_none → claims.old.items ≡ replicate (length claims.old.items) 0 }
+    requires found { IsFalse standing.old.lost }
+    ensures begun { seat.new.me ≡ (record seat.old.me.0 { theirs = begun_anew size seat.old.me.0.theirs }, seat.old.me.1) }
+    ensures loose { ∥ Loose seat.new.me.0.theirs ∥₁ }
+    ensures row { seat.new.table_id ≡ seat.old.table_id }
+    ensures claims { claims.new.items ≡ replicate (length claims.old.items) 0 }
+    ensures found { IsFalse standing.new.lost }
+    ensures freed { Freed standing.old standing.new }
+{
+    cells
+        .shared
+        .compare_exchange::<Renewed>(seat, 0, u64::from(size), u64::from(size));
+    clear_claims(claims, are_none);
+    standing.dropped();
+}
+
 // How many fields of a new replica are to be filled.
 #[inline(always)]
 fn to_fill(header: Header) -> u16
@@ -212,7 +243,7 @@ fn is_scanned(header: Header, field: u16) -> bool
     header.is_raw() || field >= header.len()
 }
 
-// Writes field `i` of the replica at `at`, unless it has this word, and returns its word as it is then. A load takes less time than an atomic store.
+// Writes field `i` of the replica at `at`, and returns its word as it is then.
 #[inline(always)]
 fn wrote(space: &mut NextSpace, at: Addr, i: u16, word: u64) -> u64
     requires shaped { IsSpace space.old }
@@ -222,9 +253,6 @@ fn wrote(space: &mut NextSpace, at: Addr, i: u16, word: u64) -> u64
     ensures shaped { IsSpace space.new }
     ensures value { field_at space.new.words at.0 i ≡ Some result }
 {
-    if space.field(at, i) == word {
-        return word;
-    }
     space.set_field(at, i, word);
     space.field(at, i)
 }
@@ -481,19 +509,21 @@ impl Copier {
         ensures err { OnErr result (self.new.seat.me ≡ self.old.seat.me) }
         ensures row { (self.new.seat.table_id ≡ self.old.seat.table_id) × (self.new.size ≡ self.old.size) }
     {
-        let zeros = zeros_for(alloc, zeros_of(alloc, self.former.take()), size)?;
-        let space = NextSpace::of_zeros(alloc, zeros.as_slice(), size)?;
-        let mut spare = Spare::new(alloc, size)?;
-        spare.zeros = zeros;
+        self.former = None;
+        let space = NextSpace::new(alloc, size)?;
+        let spare = Spare::new(alloc, size)?;
         let reserved = self.standing.reserve(max(size, self.size));
         if reserved.is_err() {
             return Err(NoMemory);
         }
-        let cells = &*self.cells;
-        cells
-            .shared
-            .compare_exchange::<Renewed>(&mut self.seat, 0, u64::from(size), u64::from(size));
-        clear_claims(&mut self.claims, self.space.end() == 1);
+        restart(
+            &self.cells,
+            &mut self.seat,
+            &mut self.claims,
+            &mut self.standing,
+            self.space.end() == 1,
+            size,
+        );
         self.due.clear();
         self.next = 0;
         self.fill_next = 0;
@@ -501,7 +531,6 @@ impl Copier {
         self.scan_place = 1;
         self.scan_field = 0;
         self.has_wanted = false;
-        self.standing.dropped();
         self.space = space;
         self.spare = Some(spare);
         Ok(())
@@ -510,6 +539,7 @@ impl Copier {
     /// Takes the memory that a flip needs. Makes it if none was prepared: the new space then has one word.
     pub(crate) fn take_spare(&mut self, alloc: Global) -> Result<Spare, NoMemory>
         ensures long { IfOk result (λ spare. length spare.claims.items ≡ half self.old.space.size) }
+        ensures kept { (self.new.claims ≡ self.old.claims) × (self.new.standing ≡ self.old.standing) }
         ensures same { self.new.seat.me ≡ self.old.seat.me }
         ensures space { self.new.space ≡ self.old.space }
         ensures row { (self.new.seat.table_id ≡ self.old.seat.table_id) × (self.new.size ≡ self.old.size) }

@@ -17,11 +17,12 @@ ghost use Rattle.gc_model.specs.Carried.{LeadsOnlyTo};
 ghost use Rattle.gc_concurrent.specs.Unreachable.{MayBeCopied, CopiesNothingUnreachable};
 ghost use Rattle.gc_concurrent.specs.Internal.Props.{heap_prop, leads_prop};
 ghost use Rattle.gc_concurrent.specs.Ends.{begun_with, its, one_heap, opening_theirs};
-ghost use Rattle.gc_concurrent.specs.Internal.Rule.{entries_of_fields, StartsThere};
+ghost use Rattle.gc_concurrent.specs.Internal.Rule.{begun_anew, entries_of_fields, StartsThere};
 ghost use Rattle.gc_concurrent.specs.Internal.Starts.{TellsStarts};
 ghost use Rattle.gc_concurrent.specs.Internal.Flip.{HasNothingLeft, Flips};
 ghost use Rattle.gc_concurrent.specs.Internal.Copiers.{AreClaimed, KeepsReplicas, LacksOne, moved_by};
 ghost use Rattle.gc_concurrent.specs.Moves.{FlipsTo, half, no_moves};
+ghost use Rattle.gc_concurrent.specs.Internal.Openings.{heap_opened};
 ghost use Rattle.gc_concurrent.specs.Internal.Following.{Follows};
 ghost use Rattle.gc_concurrent.specs.Internal.Knowing.{Knows};
 ghost use Rattle.gc_concurrent.specs.Checking.{CertifiesFlip, IsVouchedBy, flip_shown};
@@ -30,6 +31,7 @@ ghost use Rattle.gc_concurrent.specs.Turns.{IfAsked};
 use crate::cells::Cells;
 use crate::commands::Commander;
 use crate::copier::{Copier, Work, moved_word};
+use crate::ended::Ended;
 use crate::moves::Moves;
 use crate::mutator::Mutator;
 use crate::next::{NextSpace, Opened};
@@ -40,7 +42,6 @@ use gc_check::Checks;
 use gc_graph::NoMemory;
 use gc_monitor::Monitor;
 use std::alloc::Global;
-use std::mem::replace;
 use std::sync::Arc;
 
 /// A mutator and its collector. One seat is both ends, and the mutator's log is empty.
@@ -375,7 +376,7 @@ impl Held {
         ensures heap { IfErr result (λ r. heap_held r.0 ≡ heap_held self) }
         ensures moves { IfErr result (λ r. moves_held r.0 ≡ moves_held self) }
         ensures since { IfErr result (λ r. beginning_held r.0 ≡ beginning_held self) }
-        ensures known { IfErr result (λ r. known_to r.0.copier ≡ known_to self.copier) }
+        ensures known { IfErr result (λ r. (known_to r.0.copier ≡ known_to self.copier) ⊎ ((r.1 ≡ NoFlip.NoMemory) × (known_to r.0.copier ≡ begun_anew 1 (known_to self.copier)))) }
         ensures not_ready { IfErr result (λ r. r.1 ≡ NoFlip.NotReady → may_flip self ≡ false) }
         ensures same { IfErr result (λ r. r.0.copier.seat.table_id ≡ self.copier.seat.table_id) }
     {
@@ -391,59 +392,50 @@ impl Held {
             Ok(asked) => asked,
             Err(why) => return Err((self, why)),
         };
-        let mut spare = match self.copier.take_spare(alloc) {
-            Ok(spare) => spare,
-            Err(NoMemory) => return Err((self, NoFlip::NoMemory)),
-        };
         let Held {
             copier,
-            other: _,
-            logs: _,
+            other,
+            logs,
             log,
-            roots: _,
-            end: _,
+            roots: held,
+            end,
             moves,
             starts,
         } = self;
-        let Copier {
+        let Ended {
+            opened,
+            spare,
             cells,
-            seat: _,
-            space,
             claims,
             due,
-            next: _,
-            fill: _,
-            fill_next: _,
-            fill_left: _,
-            scan_place: _,
-            scan_field: _,
-            has_wanted: _,
-            wanted: _,
-            spare: _,
-            former: _,
             mut standing,
-            size: _,
-        } = copier;
+        } = match copier.end(alloc, roots) {
+            Ok(ended) => ended,
+            Err(copier) => {
+                let held = Held {
+                    copier,
+                    other,
+                    logs,
+                    log,
+                    roots: held,
+                    end,
+                    moves,
+                    starts,
+                };
+                return Err((held, NoFlip::NoMemory));
+            }
+        };
         standing.flipped();
-        let mut empty = due;
-        empty.clear();
         let (moves, row) = moves.after_flip(claims);
-        let zeros = replace(&mut spare.zeros, Vec::new(alloc));
-        let former = Some(Former {
-            cells,
-            row,
-            starts,
-            zeros,
-        });
-        let (commander, copier) = begin(space, roots, moves, spare, former, log, empty, standing);
+        let former = Some(Former { cells, row, starts });
+        let (commander, copier) = begin(opened, moves, spare, former, log, emptied(due), standing);
         Ok((commander, copier, asked))
     }
 }
 
-// The space becomes a mutator's heap with these roots, and a collection of it begins. Allocates nothing.
+// A mutator goes on in new cells, and a collection of them begins. Allocates nothing.
 fn begin(
-    space: NextSpace,
-    roots: Vec<u64>,
+    opened: Opened,
     moves: Moves,
     spare: Spare,
     former: Option<Former>,
@@ -451,18 +443,18 @@ fn begin(
     due: Vec<(u32, u16)>,
     standing: Monitor,
 ) -> (Commander, Copier)
-    requires sound { IsHeap (one_heap space roots.items) }
-    requires spare { length spare.claims.items ≡ half space.size }
+    requires sound { IsHeap (heap_opened opened) }
+    requires spare { length spare.claims.items ≡ half (heap_opened opened).space.size }
     requires empty { (log.items ≡ []) × (due.items ≡ []) }
-    requires along { ∥ Follows standing space.words (0 ∷ []) ∥₁ }
-    requires knows { ∥ Knows standing space.words (0 ∷ []) (opening_theirs (one_heap space roots.items) space.size 1) ∥₁ }
-    ensures heap { heap_of result.0.mutator.seat.me.0.mine result.0.roots.items ≡ one_heap space roots.items }
-    ensures fresh { result.1.seat.me.0.theirs ≡ opening_theirs (one_heap space roots.items) space.size 1 }
+    requires along { ∥ Follows standing (heap_opened opened).space.words (0 ∷ []) ∥₁ }
+    requires knows { ∥ Knows standing (heap_opened opened).space.words (0 ∷ []) (opening_theirs (heap_opened opened) (heap_opened opened).space.size 1) ∥₁ }
+    ensures heap { heap_of result.0.mutator.seat.me.0.mine result.0.roots.items ≡ heap_opened opened }
+    ensures fresh { result.1.seat.me.0.theirs ≡ opening_theirs (heap_opened opened) (heap_opened opened).space.size 1 }
     ensures rests { result.0.mutator.seat.me.0.mine.logs ≡ false }
     ensures log { result.0.mutator.seat.me.0.mine.log ≡ [] }
-    ensures begun { result.0.mutator.seat.me.0.mine.base ≡ begun_with (one_heap space roots.items) }
+    ensures begun { result.0.mutator.seat.me.0.mine.base ≡ begun_with (heap_opened opened) }
     ensures row { result.0.mutator.seat.table_id ≡ result.1.seat.table_id }
-    ensures size { result.0.mutator.size ≡ space.size }
+    ensures size { result.0.mutator.size ≡ (heap_opened opened).space.size }
     ensures moves { result.0.moves ≡ moves }
 {
     let Opened {
@@ -472,13 +464,10 @@ fn begin(
         size,
         end,
         starts,
-    } = space.begin(&roots);
+        roots,
+    } = opened;
     let seat = one.shared.split_seat::<Roles>(&mut own);
-    let Spare {
-        claims,
-        space,
-        zeros: _,
-    } = spare;
+    let Spare { claims, space } = spare;
     (
         Commander {
             mutator: Mutator {
@@ -535,9 +524,11 @@ pub(crate) fn open_ends(
     let roots = Vec::from_elem(alloc, 0u64, 32 + extra as usize)?;
     let spare = Spare::new(alloc, size)?;
     let standing = Monitor::new(alloc, size)?;
+    let Ok(opened) = space.begin(alloc, roots) else {
+        return Err(NoMemory);
+    };
     let (commander, mut copier) = begin(
-        space,
-        roots,
+        opened,
         Moves::none(alloc),
         spare,
         None,

@@ -8,6 +8,7 @@ mod cells;
 mod checking;
 mod commands;
 mod copier;
+mod ended;
 mod handshake;
 mod held;
 mod loads;

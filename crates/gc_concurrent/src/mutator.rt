@@ -4,8 +4,7 @@ ghost use Rattle.gc_concurrent.specs.Internal.Starts.{TellsStarts};
 ghost use Rattle.std.specs.Arc.{arc_value};
 
 use crate::cells::{Cells, CellsEnd};
-use crate::checking::loaded;
-use crate::plays::{Got, Linked, Made, Put, Referred};
+use crate::plays::{Got, Made, Put, Referred};
 use gc_graph::NoMemory;
 use gc_words::{Addr, Header, field_index, is_marked, mark};
 use std::alloc::Global;
@@ -32,21 +31,10 @@ pub struct Mutator {
     ghost marked: { TellsStarts starts.items seat.me.0.mine.space.words },
 }
 
-ghost use Rattle.gc_words.specs.Layout.{link_place};
-
-// The place of the link word of the object that starts here.
-fn link_index(at: Addr) -> usize
-    ensures { result ≡ link_place at.0 }
-{
-    at.0 as usize + 1
-}
-
 impl Mutator {
     ghost use Rattle.std.specs.Prelude.{Some, IsSome, IsTrue, OnOk, OnErr};
     ghost use Rattle.gc_words.specs.Image.{Block, block_at, field_at, fresh_block, header_at, is_start};
-    ghost use Rattle.gc_words.specs.Space.{IsSpace, CanPlace, end_of, with_object, with_field_at, with_link};
-    ghost use Rattle.gc_words.specs.Spelling.{link_at};
-    ghost use Rattle.std.specs.Prelude.{IfOk};
+    ghost use Rattle.gc_words.specs.Space.{IsSpace, CanPlace, end_of, with_object, with_field_at};
     ghost use Rattle.std.specs.Vec.{vec_len, vec_capacity};
     ghost use Rattle.gc_graph.specs.Machine.{object_words};
     ghost use Rattle.gc_words.specs.Word.{field_value};
@@ -176,52 +164,5 @@ impl Mutator {
     {
         let cells = &*self.cells;
         cells.shared.load::<Referred>(&mut self.seat, at.0 as usize);
-    }
-
-    /// Reads the link word of the object that starts here.
-    pub(crate) fn link(&mut self, at: Addr) -> u64
-        requires shaped { IsSpace self.old.seat.me.0.mine.space }
-        requires start { IsTrue (is_start self.old.seat.me.0.mine.space.words at.0) }
-        ensures value { result ≡ link_at self.old.seat.me.0.mine.space.words at.0 }
-        ensures same { self.new.seat.me ≡ self.old.seat.me }
-        ensures row { self.new.seat.table_id ≡ self.old.seat.table_id }
-        ensures size { self.new.size ≡ self.old.size }
-        ensures logging { self.new.logs ≡ self.old.logs }
-    {
-        let cells = &*self.cells;
-        cells.shared.load::<Got>(&mut self.seat, link_index(at))
-    }
-
-    /// Writes the link word of the object that starts here. No command reads it, and it is not logged.
-    pub(crate) fn set_link(&mut self, at: Addr, word: u64)
-        requires shaped { IsSpace self.old.seat.me.0.mine.space }
-        requires start { IsTrue (is_start self.old.seat.me.0.mine.space.words at.0) }
-        ensures words { self.new.seat.me.0.mine.space ≡ with_link self.old.seat.me.0.mine.space at.0 word }
-        ensures shaped { IsSpace self.new.seat.me.0.mine.space }
-        ensures end { end_of self.new.seat.me.0.mine.space ≡ end_of self.old.seat.me.0.mine.space }
-        ensures base { self.new.seat.me.0.mine.base ≡ self.old.seat.me.0.mine.base }
-        ensures copies { self.new.seat.me.0.copies ≡ self.old.seat.me.0.copies }
-        ensures logging { self.new.logs ≡ self.old.logs }
-        ensures row { self.new.seat.table_id ≡ self.old.seat.table_id }
-        ensures size { self.new.size ≡ self.old.size }
-    {
-        let cells = &*self.cells;
-        cells
-            .shared
-            .store::<Linked>(&mut self.seat, link_index(at), word);
-    }
-
-    /// Loads the words up to the end, one by one. Allocates once.
-    pub(crate) fn words(&mut self, alloc: Global, end: u32) -> Result<Vec<u64>, NoMemory>
-        requires shaped { IsSpace self.old.seat.me.0.mine.space }
-        requires end { length self.old.seat.me.0.mine.space.words ≡ end }
-        ensures words { IfOk result (λ words. words.items ≡ self.old.seat.me.0.mine.space.words) }
-        ensures same { self.new.seat.me ≡ self.old.seat.me }
-        ensures row { self.new.seat.table_id ≡ self.old.seat.table_id }
-        ensures size { self.new.size ≡ self.old.size }
-        ensures logging { self.new.logs ≡ self.old.logs }
-    {
-        let cells = &*self.cells;
-        loaded(alloc, cells, &mut self.seat, end)
     }
 }

@@ -28,14 +28,6 @@ impl Play<Vec<u64>, CellsView> for Made {
     ghost then = { tells_new };
 }
 
-pub(crate) struct Linked;
-
-impl Play<Vec<u64>, CellsView> for Linked {
-    ghost use Rattle.gc_concurrent.specs.Internal.Rule.{tells_link};
-
-    ghost then = { tells_link };
-}
-
 pub(crate) struct Referred;
 
 impl Play<Vec<u64>, CellsView> for Referred {
@@ -50,14 +42,6 @@ impl Play<Vec<u64>, CellsView> for Renewed {
     ghost use Rattle.gc_concurrent.specs.Internal.Rule.{tells_renew};
 
     ghost then = { tells_renew };
-}
-
-pub(crate) struct Began;
-
-impl Play<Vec<u64>, CellsView> for Began {
-    ghost use Rattle.gc_concurrent.specs.Internal.Rule.{tells_begin};
-
-    ghost then = { tells_begin };
 }
 
 pub(crate) struct Took;

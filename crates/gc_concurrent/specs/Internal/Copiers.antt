@@ -11,7 +11,7 @@ use Rattle.gc_concurrent.specs.Moves.{half}
 use Rattle.gc_concurrent.specs.Works.{KeepsBeginning}
 use Rattle.gc_concurrent.specs.Nearing.{ComesNearer, GetsOn}
 use Rattle.gc_words.specs.Space.{end_of}
-use Rattle.gc_concurrent.specs.Internal.Rule.{Sat, StartsThere}
+use Rattle.gc_concurrent.specs.Internal.Rule.{Sat, StartsThere, begun_anew}
 
 -- the place of the replica whose original's address has this half, or 0
 abbrev pub claim_by_half : List Replica → ℕ → ℕ
@@ -50,6 +50,10 @@ pub record KeepsSeat (a b : Sat) : Type 0 where
 -- the seat, whose mutator logs its writes
 abbrev pub logging : Sat → Sat
 logging me = (record me.0 { mine = record me.0.mine { logs = true } }, me.1)
+
+-- the seat, whose collection begins anew in a new space of one word
+abbrev pub restarted : Sat → Sat
+restarted me = (record me.0 { theirs = begun_anew 1 me.0.theirs }, me.1)
 
 -- fewer steps are ahead of a seat that is both ends
 abbrev pub NearsHeld : Sat → Sat → Type 0

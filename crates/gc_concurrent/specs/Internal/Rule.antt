@@ -84,10 +84,6 @@ wrote a i w m = record m { space = with_field_at m.space a i w; log = if m.logs 
 abbrev pub made : Header → Mine → Mine
 made h m = record m { space = with_object m.space h }
 
--- the word of a link was written
-abbrev pub linked_to : ℕ → ℕ → Mine → Mine
-linked_to a w m = record m { space = with_link m.space a w }
-
 -- a reference was made from an address alone
 abbrev pub referring : Mine → Mine
 referring m = record m { base = record m.base { referred = true } }
@@ -202,9 +198,6 @@ tells_put st me found me' = (a i : ℕ) → st.word ≡ field_place a i → IsSo
 abbrev pub tells_new : OneStep → Sat → ℕ → Sat → Type 0
 tells_new st me found me' = ((h : Header) → IsHeader h → header_word h ≡ st.first → me' ≡ (record me.0 { mine = made h me.0.mine }, me.1)) × IsClosed me.0.mine.space.words []
 
-abbrev pub tells_link : OneStep → Sat → ℕ → Sat → Type 0
-tells_link st me found me' = (a : ℕ) → st.word ≡ link_place a → IsTrue (is_start me.0.mine.space.words a) → me' ≡ (record me.0 { mine = linked_to a st.first me.0.mine }, me.1)
-
 -- The header of an object was read, to which a reference is made from its address alone.
 abbrev pub tells_refer : OneStep → Sat → ℕ → Sat → Type 0
 tells_refer st me found me' = me' ≡ (record me.0 { mine = referring me.0.mine }, me.1)
@@ -274,10 +267,6 @@ begun_anew size t = opening_theirs t.base t.old size
 
 abbrev pub tells_renew : OneStep → Sat → ℕ → Sat → Type 0
 tells_renew st me found me' = (me' ≡ (record me.0 { theirs = begun_anew st.first me.0.theirs }, me.1)) × KnowsBelonging me'
-
--- A collection of the space with these roots begins. Its new space has one word.
-abbrev pub tells_begin : OneStep → Sat → ℕ → Sat → Type 0
-tells_begin st me found me' = ((roots : RootWords) → st.said ≡ some roots → me' ≡ (opening_view (one_heap me.0.mine.space roots.items) 1, me.1)) × KnowsBelonging me'
 
 -- ---- loads of the standing checker
 

@@ -1,25 +1,22 @@
 -- What the standing checker has seen of the mutator's space: words from which the present ones come by writes that it is yet to be told of, and by
 -- objects made behind them.
-use Rattle.std.specs.Prelude.{◌≡◌, ℕ, List, [], ◌∷◌, ◌++◌, true, IsSome, IsTrue}
-use Rattle.gc_words.specs.Image.{field_at, is_start}
-use Rattle.gc_words.specs.Space.{SpaceWords, IsSpace, CanPlace, with_object, with_field_at, with_link}
+use Rattle.std.specs.Prelude.{◌≡◌, ℕ, List, [], ◌∷◌, ◌++◌, true, IsSome}
+use Rattle.gc_words.specs.Image.{field_at}
+use Rattle.gc_words.specs.Space.{SpaceWords, IsSpace, CanPlace, with_object, with_field_at}
 use Rattle.gc_words.specs.declared.header.Header.{Header}
 use Rattle.gc_concurrent.specs.Ends.{Mine}
 
--- what a mutator does to its space; one that is under construction has links too
+-- what a mutator does to its space
 pub data Event : Type 0 where
   Put : (a i word : ℕ) → Event
-  Link : (a word : ℕ) → Event
   Make : (header : Header) → Event
 
 abbrev pub happened : SpaceWords → Event → SpaceWords
 happened space (Put a i word) = with_field_at space a i word
-happened space (Link a word) = with_link space a word
 happened space (Make header) = with_object space header
 
 abbrev pub CanHappen : SpaceWords → Event → Type 0
 CanHappen space (Put a i word) = IsSome (field_at space.words a i)
-CanHappen space (Link a word) = IsTrue (is_start space.words a)
 CanHappen space (Make header) = CanPlace space header
 
 -- the space after these events, of which the newest comes first
@@ -36,7 +33,6 @@ CouldHappen space (e ∷ older) = CanHappen (after_all space older) e × CouldHa
 abbrev pub written_by : List Event → List (ℕ × ℕ)
 written_by [] = []
 written_by (Put a i word ∷ older) = written_by older ++ (a, i) ∷ []
-written_by (Link a word ∷ older) = written_by older
 written_by (Make header ∷ older) = written_by older
 
 -- the words that were seen, as a space

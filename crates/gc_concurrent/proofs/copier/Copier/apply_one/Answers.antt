@@ -175,7 +175,7 @@ module _ (c : After-load-word) where
       (subst (λ (y : Theirs). ∥ Loose y ∥₁) (theirs_is a.seat.me c.load-word.new.seat.me (after_read (applied q.original i v) (lacks (its t) v) t) told.1) loose) x is
 
   same_header : r.0.block.header ≡ c.header-header.result
-  same_header = header_there a.space.words place r.0.block c.header-header.result r.0.found c.header-header.ensures.value
+  same_header = header_there a.space.words place r.0.block c.header-header.result r.0.found c.header-header.ensures
 
   raw_is : (b : Bool) → b ≡ c.header-header.result.raw → q.object.raw ≡ b
   raw_is b e = r.0.raw ∙ (ap (λ (x : Header). x.raw) same_header ∙ sym e)
@@ -199,8 +199,7 @@ pub wrote-written-requires-clause-there : goal.wrote-written-requires-clause-the
 wrote-written-requires-clause-there c =
     let l = (goal.at.wrote-written-requires-clause-there c).After-load-word in
     let a = c.args.self.now in
-    subst (λ (x : SpaceWords). IsSome (field_at x.words c.index-place.result.now c.in-Some.oldest.field)) (sym c.header-header.ensures.same)
-    (field_within a.space.words c.index-place.result.now c.in-Some.oldest.field c.header-header.result a.shaped.walked c.header-header.ensures.value (within l))
+    field_within a.space.words c.index-place.result.now c.in-Some.oldest.field c.header-header.result a.shaped.walked c.header-header.ensures (within l)
 
 -- what was written is a number, or refers to replicas
 pub wrote-written-requires-clause-fits : goal.wrote-written-requires-clause-fits
@@ -212,8 +211,8 @@ wrote-written-requires-clause-fits c =
     (subst (λ b. IsWordAs b c.load-word.result) raw (told l).0)
     (c.in-Ok.ensures.moved ∙ ap (λ (r : List ℕ). moved_by r (read_as c.is_raw.result c.load-word.result)) c.as_slice-2.ensures.value) c.in-Ok.ensures.value (λ x is. own l x (to x is))
     (subst (λ (r : List ℕ). (x : ℕ) → read_as c.is_raw.result c.load-word.result ≡ Ref x → slice_index r (half x) ≢ 0) c.as_slice-2.ensures.value c.in-Ok.ensures.placed) in
-    word_fits (a l).space.words (place l) c.in-Ok.moved c.header-header.result c.header-header.ensures.value (subst (λ b. IsWordOfField b (a l).space.words c.in-Ok.moved) c.is_raw.ensures word)
-    c.header-header.new.self (ap (λ (x : SpaceWords). x.words) c.header-header.ensures.same)
+    word_fits (a l).space.words (place l) c.in-Ok.moved c.header-header.result c.header-header.ensures (subst (λ b. IsWordOfField b (a l).space.words c.in-Ok.moved) c.is_raw.ensures word)
+    c.args.self.now.space refl
 
 -- the view after the read, where the target has a replica or there is none
 follows : (c : After-load-word) → lacks (its (t c)) (v c) ≡ None → c.load-word.new.seat.me ≡ (record (a c).seat.me.0 { theirs = applied (q c).original (i c) (v c) (t c) }, (a c).seat.me.1)
@@ -267,7 +266,7 @@ pub compare-requires-clause-along : goal.compare-requires-clause-along
 compare-requires-clause-along c =
     let l = (goal.at.compare-requires-clause-along c).After-load-word in
     can_compare (a l).standing c.load-word.new.seat.me.0.seen (a l).space.words (place l) c.word.result
-    (word_there (a l).space.words (place l) c.word.result c.header-header.result (a l).shaped.walked c.header-header.ensures.value c.word.ensures.word)
+    (word_there (a l).space.words (place l) c.word.result c.header-header.result (a l).shaped.walked c.header-header.ensures c.word.ensures.word)
     (along_still (a l).standing (a l).seat.me c.load-word.new.seat.me (a l).space (a l).space (ap (λ (m : Sat). m.0.seen) (told l).1) refl (a l).along)
 
 pub invariant_of-self-in-Ok : goal.invariant_of-self-in-Ok
@@ -281,10 +280,10 @@ invariant_of-self-in-Ok c =
     let copies : c.compare.new.seat.me.0.copies ≡ true = copies_seen c.load-word.new.seat.me c.compare.new.seat.me _ c.compare.ensures.seen (copies_is (a l).seat.me c.load-word.new.seat.me u went (a l).copies) in
     let means : read_as (q l).object.raw c.in-Ok.moved ≡ moved (its (t l)) (v l) = ap (λ b. read_as b c.in-Ok.moved) (raw_is l c.is_raw.result c.is_raw.ensures) ∙ (c.in-Ok.ensures.moved ∙ sym n.1) in
     let there = subst (λ (x : ℕ). IsSome (field_at (a l).space.words x (i l))) (sym s.place_is)
-    (field_within (a l).space.words (place l) (i l) c.header-header.result (a l).shaped.walked c.header-header.ensures.value (within l)) in
-    let there_field : IsSome (field_at (a l).space.words (place l) (i l)) = field_within (a l).space.words (place l) (i l) c.header-header.result (a l).shaped.walked c.header-header.ensures.value (within l) in
+    (field_within (a l).space.words (place l) (i l) c.header-header.result (a l).shaped.walked c.header-header.ensures (within l)) in
+    let there_field : IsSome (field_at (a l).space.words (place l) (i l)) = field_within (a l).space.words (place l) (i l) c.header-header.result (a l).shaped.walked c.header-header.ensures (within l) in
     let wrote : u.replicas ≡ replicas_in (with_field_at (a l).space (q l).place (i l) c.in-Ok.moved).words = written_same (t l) (a l).space (q l) (i l) c.in-Ok.moved (v l) (mem (a l)) (a l).loose s.there there means in
-    let space : c.wrote-written.new.space ≡ with_field_at (a l).space (q l).place (i l) c.in-Ok.moved = c.wrote-written.ensures.words ∙ (λ j. with_field_at (c.header-header.ensures.same j) (sym s.place_is j) (i l) c.in-Ok.moved) in
+    let space : c.wrote-written.new.space ≡ with_field_at (a l).space (q l).place (i l) c.in-Ok.moved = c.wrote-written.ensures.words ∙ (λ j. with_field_at (a l).space (sym s.place_is j) (i l) c.in-Ok.moved) in
     record {
       row = ((a l).row.0 ∙ sym (c.compare.ensures.row ∙ c.load-word.ensures.0), ap (λ (i : TableId). i.words) (c.compare.ensures.row ∙ c.load-word.ensures.0) ∙ (a l).row.1, (a l).row.2);
       copies = copies;
@@ -303,14 +302,14 @@ invariant_of-self-in-Ok c =
       claimed = subst (Claims (a l).claims.items) (sym is) (claims_as (a l).claims.items (brought (q l).original (i l) (v l) (t l)) u refl refl (claims_kept (a l).claims.items (t l) (q l).original (i l) (v l) (a l).claimed));
       loose = loose_seen c.load-word.new.seat.me c.compare.new.seat.me _ c.compare.ensures.seen (loose l);
       along = along_written (a l).standing c.compare.new.standing (a l).seat.me.0.seen c.compare.new.seat.me.0.seen (a l).space c.wrote-written.new.space c.wrote-written.new.space
-          (place l) (i l) c.word.result c.in-Ok.moved c.wrote-written.result (a l).shaped there_field (c.wrote-written.ensures.words ∙ ap (λ (s : SpaceWords). with_field_at s (place l) (i l) c.in-Ok.moved) c.header-header.ensures.same) refl
-          c.wrote-written.ensures.value (word_there (a l).space.words (place l) c.word.result c.header-header.result (a l).shaped.walked c.header-header.ensures.value c.word.ensures.word)
+          (place l) (i l) c.word.result c.in-Ok.moved c.wrote-written.result (a l).shaped there_field c.wrote-written.ensures.words refl
+          c.wrote-written.ensures.value (word_there (a l).space.words (place l) c.word.result c.header-header.result (a l).shaped.walked c.header-header.ensures c.word.ensures.word)
           (λ ws. subst (λ z. slice_index ws (place l) ≡ c.word.result → field_place (place l) (i l) < length ws → ∥ Follows (a l).standing z ws ∥₁ → ∥ Follows c.compare.new.standing c.compare.new.seat.me.0.seen (slice_set ws (field_place (place l) (i l)) c.wrote-written.result) ∥₁) (ap (λ (m : Sat). m.0.seen) went) (c.compare.ensures.along ws)) (a l).along;
       knows = subst (λ (y : Theirs). ∥ Knows c.compare.new.standing c.compare.new.seat.me.0.seen c.wrote-written.new.space.words y ∥₁) (sym is)
           (knows_compared (a l) c.compare.new.standing c.compare.new.seat.me.0.seen c.wrote-written.new.space c.wrote-written.new.space (q l) (place l) (i l) c.word.result c.in-Ok.moved c.wrote-written.result u
           (r l).0.there (r l).0.place_is (r l).3
-          (word_there (a l).space.words (place l) c.word.result c.header-header.result (a l).shaped.walked c.header-header.ensures.value c.word.ensures.word)
-          there_field (c.wrote-written.ensures.words ∙ ap (λ (s : SpaceWords). with_field_at s (place l) (i l) c.in-Ok.moved) c.header-header.ensures.same) refl c.wrote-written.ensures.value
+          (word_there (a l).space.words (place l) c.word.result c.header-header.result (a l).shaped.walked c.header-header.ensures c.word.ensures.word)
+          there_field c.wrote-written.ensures.words refl c.wrote-written.ensures.value
           (subst (λ z. slice_index (a l).space.words (place l) ≡ c.word.result → field_place (place l) (i l) < length (a l).space.words → ∥ Follows (a l).standing z (a l).space.words ∥₁
           → ∥ Compared (place l) (i l) (a l).standing c.compare.new.standing z c.compare.new.seat.me.0.seen (slice_set (a l).space.words (field_place (place l) (i l)) c.wrote-written.result) ∥₁)
           (ap (λ (m : Sat). m.0.seen) went) (c.compare.ensures.compared (a l).space.words))
@@ -329,9 +328,9 @@ invariant_of-self-in-Err c =
     record {
       row = ((a l).row.0 ∙ sym c.load-word.ensures.0, ap (λ (i : TableId). i.words) c.load-word.ensures.0 ∙ (a l).row.1, (a l).row.2);
       copies = copies;
-      shaped = still_shaped (a l) c.header-header.new.self c.header-header.ensures.same;
-      sized = (ap (λ (y : Theirs). y.old) is ∙ (a l).sized.0, still_sized (a l) c.header-header.new.self c.header-header.ensures.same ∙ sym (ap (λ (y : Theirs). y.size) is));
-      same = ap (λ (y : Theirs). y.replicas) is ∙ still_same (a l) c.header-header.new.self c.header-header.ensures.same;
+      shaped = (a l).shaped;
+      sized = (ap (λ (y : Theirs). y.old) is ∙ (a l).sized.0, (a l).sized.1 ∙ sym (ap (λ (y : Theirs). y.size) is));
+      same = ap (λ (y : Theirs). y.replicas) is ∙ (a l).same;
       scans = (ap (λ (y : Theirs). y.scan_place) is ∙ (a l).scans.0, ap (λ (y : Theirs). y.scan_field) is ∙ (a l).scans.1);
       dues = (ap (λ (y : Theirs). y.due) is ∙ (a l).dues.0, (a l).dues.1, (a l).dues.2);
       wants = ap (λ (y : Theirs). y.wanted) is;
@@ -342,9 +341,9 @@ invariant_of-self-in-Err c =
       fills = λ p k e n. (a l).fills p (subst (In p) (ap (λ (y : Theirs). y.replicas) is) k) e n;
       claimed = subst (Claims (a l).claims.items) (sym is) (claims_as (a l).claims.items (t l) u refl refl (a l).claimed);
       loose = loose l;
-      along = along_still (a l).standing (a l).seat.me c.load-word.new.seat.me (a l).space c.header-header.new.self (ap (λ (m : Sat). m.0.seen) went) c.header-header.ensures.same (a l).along;
-      knows = knows_kept (a l).standing (a l).seat.me c.load-word.new.seat.me (a l).space c.header-header.new.self u (ap (λ (m : Sat). m.0.seen) went) c.header-header.ensures.same is (wants_brings x (t l)) (a l).knows;
-      spared = still_spared (a l) c.header-header.new.self.size (ap (λ (x : SpaceWords). x.size) c.header-header.ensures.same);
+      along = along_still (a l).standing (a l).seat.me c.load-word.new.seat.me (a l).space c.args.self.now.space (ap (λ (m : Sat). m.0.seen) went) refl (a l).along;
+      knows = knows_kept (a l).standing (a l).seat.me c.load-word.new.seat.me (a l).space c.args.self.now.space u (ap (λ (m : Sat). m.0.seen) went) refl is (wants_brings x (t l)) (a l).knows;
+      spared = (a l).spared;
     }
 
 pub returns-in-Ok-clause-seat : goal.returns-in-Ok-clause-seat
@@ -392,7 +391,7 @@ pub compare-requires-clause-passed : goal.compare-requires-clause-passed
 compare-requires-clause-passed c =
     let l = (goal.at.compare-requires-clause-passed c).After-load-word in
     has_passed (a l) (q l) (i l) (place l) c.word.result (r l).0.there (r l).0.place_is (r l).3
-    (word_there (a l).space.words (place l) c.word.result c.header-header.result (a l).shaped.walked c.header-header.ensures.value c.word.ensures.word)
+    (word_there (a l).space.words (place l) c.word.result c.header-header.result (a l).shaped.walked c.header-header.ensures c.word.ensures.word)
 
 pub compare-requires-clause-low : goal.compare-requires-clause-low
 compare-requires-clause-low c =

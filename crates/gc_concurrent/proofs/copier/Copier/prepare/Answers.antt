@@ -19,23 +19,30 @@ use Rattle.gc_concurrent.specs.Internal.Rule.{Sat}
 use Rattle.gc_concurrent.specs.Internal.Following.{Follows}
 use Rattle.gc_concurrent.proofs.TiedCells.{tied, tied_words}
 use Rattle.gc_concurrent.proofs.Memory.{claims_none, old_low}
-use Rattle.gc_concurrent.proofs.Opening.{renews_at}
 use Rattle.gc_concurrent.proofs.Following.{through}
 use Rattle.gc_concurrent.proofs.Comparing.{along_still, dropped_follows, roomy_follows}
 use Rattle.gc_concurrent.proofs.copier.Copier.prepare.Goals as goal
+use Rattle.gc_concurrent.proofs.copier.Copier.prepare.Goals.{After-reserve-reserved}
 
-pub compare_exchange-requires : goal.compare_exchange-requires
-compare_exchange-requires c =
-    let a = c.args.self.now in (
-      tied _ _ _ c.deref-cells.ensures a.row.0,
-      (let w = tied_words _ _ _ _ c.deref-cells.ensures a.row.0 a.row.1 in let l = old_low a.seat.me.0.theirs a.loose in let s = a.sized.0 in omega arith),
-      renews_at _ _ _ _ c.args.size _ _ c.from.ensures c.from-2.ensures a.copies c.requires.low (omega arith),
-    )
+pub restart-requires-clause-cells : goal.restart-requires-clause-cells
+restart-requires-clause-cells c = tied _ _ _ c.deref.ensures c.args.self.now.row.0
 
-pub clear_claims-requires : goal.clear_claims-requires
-clear_claims-requires c is =
+pub restart-requires-clause-some : goal.restart-requires-clause-some
+restart-requires-clause-some c =
+    let a = c.args.self.now in
+    let w = tied_words _ _ _ _ c.deref.ensures a.row.0 a.row.1 in let l = old_low a.seat.me.0.theirs a.loose in let s = a.sized.0 in omega arith
+
+pub restart-requires-clause-none : goal.restart-requires-clause-none
+restart-requires-clause-none c is =
     let a = c.args.self.now in
     claims_none a.claims.items a.seat.me.0.theirs a.space a.same a.claimed (sym c.end.ensures.value ∙ eqb-true c.end.result 1 is)
+
+-- the standing checker is not lost
+found : (c : After-reserve-reserved) → c.reserve-reserved.new.self.lost ≡ false
+found c = ap (λ (t : Tables). t.lost) c.reserve-reserved.ensures.tables ∙ is_found c.args.self.now
+
+pub restart-requires-clause-found : goal.restart-requires-clause-found
+restart-requires-clause-found c = found (goal.at.restart-requires-clause-found c).After-reserve-reserved
 
 pub invariant_of-self-then-is_err-clause-along : goal.invariant_of-self-then-is_err-clause-along
 invariant_of-self-then-is_err-clause-along c =
@@ -47,8 +54,9 @@ invariant_of-self-then-is_err-clause-along c =
 pub invariant_of-self-2-clause-along : goal.invariant_of-self-2-clause-along
 invariant_of-self-2-clause-along c =
     let a = c.args.self.now in
-    along_still c.dropped.new.self a.seat.me c.compare_exchange.new.seat.me (empty_space c.args.size) c.in_ok-space.space (ap (λ (m : Sat). m.0.seen) c.compare_exchange.ensures.2.0) c.in_ok-space.ensures.empty
-    (dropped_follows c.reserve-reserved.new.self c.dropped.new.self a.seat.me.0.seen a.space.words c.dropped.ensures.lost c.dropped.ensures.freed
+    let l = (goal.at.invariant_of-self-2-clause-along c).After-reserve-reserved in
+    along_still c.restart.new.standing a.seat.me c.restart.new.seat.me (empty_space c.args.size) c.in_ok-space.space (ap (λ (m : Sat). m.0.seen) c.restart.ensures.begun) c.in_ok-space.ensures.empty
+    (dropped_follows c.reserve-reserved.new.self c.restart.new.standing a.seat.me.0.seen a.space.words (λ e. absurd (true≢false (sym e ∙ found l))) (λ _. c.restart.ensures.freed)
     (subst (λ (t : Tables). ∥ Follows t a.seat.me.0.seen a.space.words ∥₁) (sym c.reserve-reserved.ensures.tables)
     (through a.standing (record a.standing { room = c.reserve-reserved.new.self.room }) a.seat.me.0.seen a.seat.me.0.seen a.space.words a.space.words
     (roomy_follows a.standing c.reserve-reserved.new.self.room a.seat.me.0.seen a.space.words) a.along)))
@@ -66,9 +74,8 @@ invariant_of-self-2-clause-knows c =
     let a = c.args.self.now in
     let t = a.seat.me.0.theirs in
     let room : ℕ = c.reserve-reserved.new.self.room in
-    let went = c.compare_exchange.ensures.2.0 in
+    let went = c.restart.ensures.begun in
     let tables : c.reserve-reserved.new.self ≡ record a.standing { room = room } = c.reserve-reserved.ensures.tables in
-    let found : c.dropped.new.self.lost ≡ false = c.dropped.ensures.stays (ap (λ (t : Tables). t.lost) tables ∙ is_found a) in
     let more : (a.standing.room ≡ 0) ⊎ (c.max.result ≤ room) = of_ok c.reserve-reserved.result _ c.reserve-reserved.ensures.room (sym c.is_err.ensures.value ∙ c.if-is_err.false) in
     let old = old_low t a.loose in
     let has = (has_room a).0 in
@@ -77,7 +84,7 @@ invariant_of-self-2-clause-knows c =
     let largest = max_high c.args.size a.size c.max.result c.max.ensures in
     let first = largest.0 in
     let second = largest.1 in
-    subst (λ (z : List ℕ × (List ℕ × Theirs)). ∥ Knows c.dropped.new.self z.0 z.1.0 z.1.1 ∥₁)
-    (λ i. (sym (ap (λ (m : Sat). m.0.seen) went) i, (sym (ap (λ (s : SpaceWords). s.words) c.in_ok-space.ensures.empty) i, sym (ap (λ (m : Sat). m.0.theirs) went ∙ ap (λ n. begun_anew n t) c.from.ensures) i)))
+    subst (λ (z : List ℕ × (List ℕ × Theirs)). ∥ Knows c.restart.new.standing z.0 z.1.0 z.1.1 ∥₁)
+    (λ i. (sym (ap (λ (m : Sat). m.0.seen) went) i, (sym (ap (λ (s : SpaceWords). s.words) c.in_ok-space.ensures.empty) i, sym (ap (λ (m : Sat). m.0.theirs) went) i)))
     (∥∥₁_elim a.knows (hlevel props) (λ k.
-    ∣ dropped_knows a.standing c.dropped.new.self room a.seat.me.0.seen a.space.words t t.base t.old c.args.size found (subst (λ z. Freed z c.dropped.new.self) tables (c.dropped.ensures.freed found)) (omega arith) (omega arith) k ∣₁))
+    ∣ dropped_knows a.standing c.restart.new.standing room a.seat.me.0.seen a.space.words t t.base t.old c.args.size c.restart.ensures.found (subst (λ z. Freed z c.restart.new.standing) tables c.restart.ensures.freed) (omega arith) (omega arith) k ∣₁))

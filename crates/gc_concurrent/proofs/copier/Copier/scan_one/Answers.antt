@@ -45,7 +45,7 @@ load-requires c =
     let s = at_scan a c.requires.low in (
       tied _ _ _ c.deref-cells.ensures a.row.0,
       (let n = near a.seat.me.0.theirs a.loose s.replica s.there in let o = a.sized.0 in let w = tied_words _ _ _ _ c.deref-cells.ensures a.row.0 a.row.1 in omega arith),
-      passes _ _ _ _ _ s.replica a.copies s.there (s.place_is ∙ sym a.scans.0) (scan_over a c.requires.low c.header-header.result c.header-header.ensures.value (c.is_scanned.ensures.done c.if-is_scanned.true)),
+      passes _ _ _ _ _ s.replica a.copies s.there (s.place_is ∙ sym a.scans.0) (scan_over a c.requires.low c.header-header.result c.header-header.ensures (c.is_scanned.ensures.done c.if-is_scanned.true)),
     )
 
 pub invariant_of-self : goal.invariant_of-self
@@ -54,17 +54,17 @@ invariant_of-self c =
     let t = a.seat.me.0.theirs in
     let s = at_scan a c.requires.low in
     let u : Theirs = passed s.replica t in
-    let went = c.load.ensures.2.0 s.replica s.there (s.place_is ∙ sym a.scans.0) (scan_over a c.requires.low c.header-header.result c.header-header.ensures.value (c.is_scanned.ensures.done c.if-is_scanned.true)) in
+    let went = c.load.ensures.2.0 s.replica s.there (s.place_is ∙ sym a.scans.0) (scan_over a c.requires.low c.header-header.result c.header-header.ensures (c.is_scanned.ensures.done c.if-is_scanned.true)) in
     let is : c.load.new.seat.me.0.theirs ≡ u = theirs_is a.seat.me c.load.new.seat.me u went in
     let copies : c.load.new.seat.me.0.copies ≡ true = copies_is a.seat.me c.load.new.seat.me u went a.copies in
-    let same = header_there a.space.words a.scan_place s.block c.header-header.result s.found c.header-header.ensures.value in
+    let same = header_there a.space.words a.scan_place s.block c.header-header.result s.found c.header-header.ensures in
     let many : length s.replica.object.fields ≡ c.header-header.result.len = s.many ∙ ap (λ (x : Header). x.len) same in
     record {
       row = (a.row.0 ∙ sym c.load.ensures.0, ap (λ (i : TableId). i.words) c.load.ensures.0 ∙ a.row.1, a.row.2);
       copies = copies;
-      shaped = still_shaped a c.header-header.new.self c.header-header.ensures.same;
-      sized = (ap (λ (x : Theirs). x.old) is ∙ a.sized.0, still_sized a c.header-header.new.self c.header-header.ensures.same ∙ sym (ap (λ (x : Theirs). x.size) is));
-      same = ap (λ (x : Theirs). x.replicas) is ∙ still_same a c.header-header.new.self c.header-header.ensures.same;
+      shaped = a.shaped;
+      sized = (ap (λ (x : Theirs). x.old) is ∙ a.sized.0, a.sized.1 ∙ sym (ap (λ (x : Theirs). x.size) is));
+      same = ap (λ (x : Theirs). x.replicas) is ∙ a.same;
       scans = (
         (let p = ap (λ (x : Theirs). x.scan_place) is in let at = a.scans.0 in omega (arith, many, c.object_words.ensures, c.len.ensures)),
         ap (λ (x : Theirs). x.scan_field) is,
@@ -75,17 +75,17 @@ invariant_of-self c =
       fills = λ q k e n. absurd (n c.requires.filled);
       claimed = subst (Claims a.claims.items) (sym is) (claims_as a.claims.items t u refl refl a.claimed);
       loose = c.load.ensures.2.1 copies;
-      along = along_still a.standing a.seat.me c.load.new.seat.me a.space c.header-header.new.self (ap (λ (m : Sat). m.0.seen) went) c.header-header.ensures.same a.along;
-      knows = knows_kept a.standing a.seat.me c.load.new.seat.me a.space c.header-header.new.self u (ap (λ (m : Sat). m.0.seen) went) c.header-header.ensures.same is
-          (passed_brings t s.replica a.loose s.there (s.place_is ∙ sym a.scans.0) (scan_over a c.requires.low c.header-header.result c.header-header.ensures.value (c.is_scanned.ensures.done c.if-is_scanned.true))) a.knows;
-      spared = still_spared a c.header-header.new.self.size (ap (λ (x : SpaceWords). x.size) c.header-header.ensures.same);
+      along = along_still a.standing a.seat.me c.load.new.seat.me a.space c.args.self.now.space (ap (λ (m : Sat). m.0.seen) went) refl a.along;
+      knows = knows_kept a.standing a.seat.me c.load.new.seat.me a.space c.args.self.now.space u (ap (λ (m : Sat). m.0.seen) went) refl is
+          (passed_brings t s.replica a.loose s.there (s.place_is ∙ sym a.scans.0) (scan_over a c.requires.low c.header-header.result c.header-header.ensures (c.is_scanned.ensures.done c.if-is_scanned.true))) a.knows;
+      spared = a.spared;
     }
 
 pub overflow_add-self : goal.overflow_add-self
 overflow_add-self c =
     let a = c.args.self.now in
     let s = at_scan a c.requires.low in
-    let same = header_there a.space.words a.scan_place s.block c.header-header.result s.found c.header-header.ensures.value in
+    let same = header_there a.space.words a.scan_place s.block c.header-header.result s.found c.header-header.ensures in
     let many : length s.replica.object.fields ≡ c.header-header.result.len = s.many ∙ ap (λ (x : Header). x.len) same in
     let within = scan_within a.seat.me.0.theirs a.loose s.replica s.there (s.place_is ∙ sym a.scans.0) in
     let end = end_is a.seat.me.0.theirs a.space (mem a) in
@@ -97,13 +97,13 @@ returns-then-is_scanned-clause-seat c =
     let a = c.args.self.now in
     let s = at_scan a c.requires.low in
     keeps_seat a.seat.me c.load.new.seat.me (passed s.replica a.seat.me.0.theirs)
-    (c.load.ensures.2.0 s.replica s.there (s.place_is ∙ sym a.scans.0) (scan_over a c.requires.low c.header-header.result c.header-header.ensures.value (c.is_scanned.ensures.done c.if-is_scanned.true))) refl refl refl (λ x there. there) (λ w starts. starts)
+    (c.load.ensures.2.0 s.replica s.there (s.place_is ∙ sym a.scans.0) (scan_over a c.requires.low c.header-header.result c.header-header.ensures (c.is_scanned.ensures.done c.if-is_scanned.true))) refl refl refl (λ x there. there) (λ w starts. starts)
 
 -- ---- a field
 
 pub link-requires : goal.link-requires
 link-requires c = let s = at_scan c.args.self.now c.requires.low in
-    subst (λ (x : SpaceWords). is_start x.words c.args.self.now.scan_place ≡ true) (sym c.header-header.ensures.same) (ap Rattle.std.proofs.Common.is_some s.found)
+    ap Rattle.std.proofs.Common.is_some s.found
 
 -- the link that was read after the header
 link_is : (a : Copier) (space : SpaceWords) (link : ℕ) → space ≡ a.space → link ≡ link_at space.words a.scan_place → link ≡ link_at a.space.words a.scan_place
@@ -113,7 +113,7 @@ pub overflow_cast-original : goal.overflow_cast-original
 overflow_cast-original c =
     let a = c.args.self.now in
     let s = at_scan a c.requires.low in
-    let n = near a.seat.me.0.theirs a.loose s.replica s.there in let o = old_high a.seat.me.0.theirs a.loose in let l = s.link in let e = link_is a c.header-header.new.self c.link.result c.header-header.ensures.same c.link.ensures.value in omega arith
+    let n = near a.seat.me.0.theirs a.loose s.replica s.there in let o = old_high a.seat.me.0.theirs a.loose in let l = s.link in let e = link_is a c.args.self.now.space c.link.result refl c.link.ensures in omega arith
 
 place_of : (a : Copier) (q : Replica) (link k : ℕ) → k ≡ field_place link a.scan_field → q.original ≡ link → k ≡ field_place q.original a.seat.me.0.theirs.scan_field
 place_of a q link k e l = e ∙ (λ i. field_place (sym l i) (sym a.scans.1 i))
@@ -122,8 +122,8 @@ pub load-word-requires : goal.load-word-requires
 load-word-requires c =
     let a = c.args.self.now in
     let s = at_scan a c.requires.low in
-    let left = scan_left a c.requires.low c.header-header.result c.header-header.ensures.value (c.is_scanned.ensures.left c.if-is_scanned.false) in
-    let is = place_of a s.replica c.link.result c.field_index.result c.field_index.ensures (s.link ∙ sym (link_is a c.header-header.new.self c.link.result c.header-header.ensures.same c.link.ensures.value)) in (
+    let left = scan_left a c.requires.low c.header-header.result c.header-header.ensures (c.is_scanned.ensures.left c.if-is_scanned.false) in
+    let is = place_of a s.replica c.link.result c.field_index.result c.field_index.ensures (s.link ∙ sym (link_is a c.args.self.now.space c.link.result refl c.link.ensures)) in (
       tied _ _ _ c.deref-cells.ensures a.row.0,
       (let n = near a.seat.me.0.theirs a.loose s.replica s.there in let o = a.sized.0 in let w = tied_words _ _ _ _ c.deref-cells.ensures a.row.0 a.row.1 in let f = left.1 in omega arith),
       scans_at _ _ _ _ s.replica _ is a.copies s.there (s.place_is ∙ sym a.scans.0) left.0 left.1,
@@ -143,11 +143,11 @@ module _ (c : After-load-word) where
   v = value_of c.load-word.result
 
   left : (q.object.raw ≡ false) × (t.scan_field < length q.object.fields)
-  left = scan_left a c.requires.low c.header-header.result c.header-header.ensures.value (c.is_scanned.ensures.left c.if-is_scanned.false)
+  left = scan_left a c.requires.low c.header-header.result c.header-header.ensures (c.is_scanned.ensures.left c.if-is_scanned.false)
 
   told : (is_value c.load-word.result ≡ true) × (c.load-word.new.seat.me ≡ (record a.seat.me.0 { theirs = after_read (scanned q.original t.scan_field v) (lacks (its t) v) t }, a.seat.me.1))
   told = let s = at_scan a c.requires.low in
-      c.load-word.ensures.2.0 q s.there (s.place_is ∙ sym a.scans.0) left.0 left.1 (place_of a q c.link.result c.field_index.result c.field_index.ensures (s.link ∙ sym (link_is a c.header-header.new.self c.link.result c.header-header.ensures.same c.link.ensures.value)))
+      c.load-word.ensures.2.0 q s.there (s.place_is ∙ sym a.scans.0) left.0 left.1 (place_of a q c.link.result c.field_index.result c.field_index.ensures (s.link ∙ sym (link_is a c.args.self.now.space c.link.result refl c.link.ensures)))
 
   after : Theirs
   after = after_read (scanned q.original t.scan_field v) (lacks (its t) v) t
@@ -170,15 +170,10 @@ moved_word-requires-clause-inside c x is =
 pub moved_word-requires-clause-places : goal.moved_word-requires-clause-places
 moved_word-requires-clause-places c = subst (λ (row : List ℕ). (a : ℕ) → slice_index row a < 4294967295) (sym c.as_slice.ensures.value) (claim_low c.args.self.now.claims.items c.args.self.now.seat.me.0.theirs c.args.self.now.loose c.args.self.now.claimed)
 
--- the space is as it was
-still : (c : After-load-word) → c.link.new.self ≡ (a c).space
-still c = c.link.ensures.same ∙ c.header-header.ensures.same
-
 pub wrote-written-requires-clause-there : goal.wrote-written-requires-clause-there
 wrote-written-requires-clause-there c =
     let a = c.args.self.now in
-    subst (λ (x : SpaceWords). IsSome (field_at x.words a.scan_place a.scan_field)) (sym (still (goal.at.wrote-written-requires-clause-there c).After-load-word))
-    (field_within a.space.words a.scan_place a.scan_field c.header-header.result a.shaped.walked c.header-header.ensures.value (c.is_scanned.ensures.left c.if-is_scanned.false).1)
+    field_within a.space.words a.scan_place a.scan_field c.header-header.result a.shaped.walked c.header-header.ensures (c.is_scanned.ensures.left c.if-is_scanned.false).1
 
 -- what was written refers to replicas
 pub wrote-written-requires-clause-fits : goal.wrote-written-requires-clause-fits
@@ -188,8 +183,8 @@ wrote-written-requires-clause-fits c =
     let word : IsWordOfField false (a l).space.words c.in-Ok.moved = field_word_moved false (a l).claims.items (t l) (a l).space c.load-word.result c.in-Ok.moved (mem (a l)) (a l).claimed (told l).0
     (c.in-Ok.ensures.moved ∙ ap (λ (r : List ℕ). moved_by r (v l)) c.as_slice.ensures.value) (λ _. c.in-Ok.ensures.value) (own l)
     (subst (λ (r : List ℕ). (x : ℕ) → v l ≡ Ref x → slice_index r (half x) ≢ 0) c.as_slice.ensures.value c.in-Ok.ensures.placed) in
-    word_fits (a l).space.words (a l).scan_place c.in-Ok.moved c.header-header.result c.header-header.ensures.value (subst (λ b. IsWordOfField b (a l).space.words c.in-Ok.moved) (sym plain) word)
-    c.link.new.self (ap (λ (x : SpaceWords). x.words) (still l))
+    word_fits (a l).space.words (a l).scan_place c.in-Ok.moved c.header-header.result c.header-header.ensures (subst (λ b. IsWordOfField b (a l).space.words c.in-Ok.moved) (sym plain) word)
+    (a l).space refl
 
 -- the view after the read, where the target has a replica or there is none
 follows : (c : After-load-word) → lacks (its (t c)) (v c) ≡ None → c.load-word.new.seat.me ≡ (record (a c).seat.me.0 { theirs = scanned (q c).original (t c).scan_field (v c) (t c) }, (a c).seat.me.1)
@@ -218,7 +213,7 @@ pub compare-requires-clause-along : goal.compare-requires-clause-along
 compare-requires-clause-along c =
     let l = (goal.at.compare-requires-clause-along c).After-load-word in
     can_compare (a l).standing c.load-word.new.seat.me.0.seen (a l).space.words (a l).scan_place c.word.result
-    (word_there (a l).space.words (a l).scan_place c.word.result c.header-header.result (a l).shaped.walked c.header-header.ensures.value c.word.ensures.word)
+    (word_there (a l).space.words (a l).scan_place c.word.result c.header-header.result (a l).shaped.walked c.header-header.ensures c.word.ensures.word)
     (along_still (a l).standing (a l).seat.me c.load-word.new.seat.me (a l).space (a l).space (ap (λ (m : Sat). m.0.seen) (told l).1) refl (a l).along)
 
 pub compare-requires-clause-found : goal.compare-requires-clause-found
@@ -229,7 +224,7 @@ compare-requires-clause-passed c =
     let l = (goal.at.compare-requires-clause-passed c).After-load-word in
     let s = at_scan (a l) c.requires.low in
     has_passed (a l) s.replica (a l).scan_field (a l).scan_place c.word.result s.there s.place_is (let m = (left l).1 in let e = (a l).scans.1 in omega arith)
-    (word_there (a l).space.words (a l).scan_place c.word.result c.header-header.result (a l).shaped.walked c.header-header.ensures.value c.word.ensures.word)
+    (word_there (a l).space.words (a l).scan_place c.word.result c.header-header.result (a l).shaped.walked c.header-header.ensures c.word.ensures.word)
 
 pub compare-requires-clause-low : goal.compare-requires-clause-low
 compare-requires-clause-low c =
@@ -250,10 +245,10 @@ invariant_of-self-in-Ok c =
     let copies : c.compare.new.seat.me.0.copies ≡ true = copies_seen c.load-word.new.seat.me c.compare.new.seat.me _ c.compare.ensures.seen (copies_is (a l).seat.me c.load-word.new.seat.me u went (a l).copies) in
     let means : read_as (q l).object.raw c.in-Ok.moved ≡ moved (its (t l)) (v l) = ap (λ b. read_as b c.in-Ok.moved) (left l).0 ∙ (c.in-Ok.ensures.moved ∙ sym n.1) in
     let there = subst (λ (x : ℕ × ℕ). IsSome (field_at (a l).space.words x.0 x.1)) (λ i. (sym s.place_is i, sym (a l).scans.1 i))
-    (field_within (a l).space.words (a l).scan_place (a l).scan_field c.header-header.result (a l).shaped.walked c.header-header.ensures.value (c.is_scanned.ensures.left c.if-is_scanned.false).1) in
-    let there_field : IsSome (field_at (a l).space.words (a l).scan_place (a l).scan_field) = field_within (a l).space.words (a l).scan_place (a l).scan_field c.header-header.result (a l).shaped.walked c.header-header.ensures.value (c.is_scanned.ensures.left c.if-is_scanned.false).1 in
+    (field_within (a l).space.words (a l).scan_place (a l).scan_field c.header-header.result (a l).shaped.walked c.header-header.ensures (c.is_scanned.ensures.left c.if-is_scanned.false).1) in
+    let there_field : IsSome (field_at (a l).space.words (a l).scan_place (a l).scan_field) = field_within (a l).space.words (a l).scan_place (a l).scan_field c.header-header.result (a l).shaped.walked c.header-header.ensures (c.is_scanned.ensures.left c.if-is_scanned.false).1 in
     let wrote : u.replicas ≡ replicas_in (with_field_at (a l).space (q l).place (t l).scan_field c.in-Ok.moved).words = written_same (t l) (a l).space (q l) (t l).scan_field c.in-Ok.moved (v l) (mem (a l)) (a l).loose s.there there means in
-    let space : c.wrote-written.new.space ≡ with_field_at (a l).space (q l).place (t l).scan_field c.in-Ok.moved = c.wrote-written.ensures.words ∙ (λ i. with_field_at (still l i) (sym s.place_is i) (sym (a l).scans.1 i) c.in-Ok.moved) in
+    let space : c.wrote-written.new.space ≡ with_field_at (a l).space (q l).place (t l).scan_field c.in-Ok.moved = c.wrote-written.ensures.words ∙ (λ i. with_field_at (a l).space (sym s.place_is i) (sym (a l).scans.1 i) c.in-Ok.moved) in
     record {
       row = ((a l).row.0 ∙ sym (c.compare.ensures.row ∙ c.load-word.ensures.0), ap (λ (i : TableId). i.words) (c.compare.ensures.row ∙ c.load-word.ensures.0) ∙ (a l).row.1, (a l).row.2);
       copies = copies;
@@ -268,14 +263,14 @@ invariant_of-self-in-Ok c =
       claimed = subst (Claims (a l).claims.items) (sym is) (claims_as (a l).claims.items (brought (q l).original (t l).scan_field (v l) (t l)) u refl refl (claims_kept (a l).claims.items (t l) (q l).original (t l).scan_field (v l) (a l).claimed));
       loose = loose_seen c.load-word.new.seat.me c.compare.new.seat.me _ c.compare.ensures.seen (loose l);
       along = along_written (a l).standing c.compare.new.standing (a l).seat.me.0.seen c.compare.new.seat.me.0.seen (a l).space c.wrote-written.new.space c.wrote-written.new.space
-          (a l).scan_place (a l).scan_field c.word.result c.in-Ok.moved c.wrote-written.result (a l).shaped (there_field) (c.wrote-written.ensures.words ∙ ap (λ (s : SpaceWords). with_field_at s (a l).scan_place (a l).scan_field c.in-Ok.moved) (still l)) refl
-          c.wrote-written.ensures.value (word_there (a l).space.words (a l).scan_place c.word.result c.header-header.result (a l).shaped.walked c.header-header.ensures.value c.word.ensures.word)
+          (a l).scan_place (a l).scan_field c.word.result c.in-Ok.moved c.wrote-written.result (a l).shaped (there_field) c.wrote-written.ensures.words refl
+          c.wrote-written.ensures.value (word_there (a l).space.words (a l).scan_place c.word.result c.header-header.result (a l).shaped.walked c.header-header.ensures c.word.ensures.word)
           (λ ws. subst (λ z. slice_index ws (a l).scan_place ≡ c.word.result → field_place (a l).scan_place (a l).scan_field < length ws → ∥ Follows (a l).standing z ws ∥₁ → ∥ Follows c.compare.new.standing c.compare.new.seat.me.0.seen (slice_set ws (field_place (a l).scan_place (a l).scan_field) c.wrote-written.result) ∥₁) (ap (λ (m : Sat). m.0.seen) went) (c.compare.ensures.along ws)) (a l).along;
       knows = subst (λ (y : Theirs). ∥ Knows c.compare.new.standing c.compare.new.seat.me.0.seen c.wrote-written.new.space.words y ∥₁) (sym is)
           (knows_compared (a l) c.compare.new.standing c.compare.new.seat.me.0.seen c.wrote-written.new.space c.wrote-written.new.space s.replica (a l).scan_place (a l).scan_field c.word.result c.in-Ok.moved c.wrote-written.result u
           s.there s.place_is (let m = (left l).1 in let e = (a l).scans.1 in omega arith)
-          (word_there (a l).space.words (a l).scan_place c.word.result c.header-header.result (a l).shaped.walked c.header-header.ensures.value c.word.ensures.word)
-          there_field (c.wrote-written.ensures.words ∙ ap (λ (s : SpaceWords). with_field_at s (a l).scan_place (a l).scan_field c.in-Ok.moved) (still l)) refl c.wrote-written.ensures.value
+          (word_there (a l).space.words (a l).scan_place c.word.result c.header-header.result (a l).shaped.walked c.header-header.ensures c.word.ensures.word)
+          there_field c.wrote-written.ensures.words refl c.wrote-written.ensures.value
           (subst (λ z. slice_index (a l).space.words (a l).scan_place ≡ c.word.result → field_place (a l).scan_place (a l).scan_field < length (a l).space.words → ∥ Follows (a l).standing z (a l).space.words ∥₁
           → ∥ Compared (a l).scan_place (a l).scan_field (a l).standing c.compare.new.standing z c.compare.new.seat.me.0.seen (slice_set (a l).space.words (field_place (a l).scan_place (a l).scan_field) c.wrote-written.result) ∥₁)
           (ap (λ (m : Sat). m.0.seen) went) (c.compare.ensures.compared (a l).space.words))
@@ -294,9 +289,9 @@ invariant_of-self-in-Err c =
     record {
       row = ((a l).row.0 ∙ sym c.load-word.ensures.0, ap (λ (i : TableId). i.words) c.load-word.ensures.0 ∙ (a l).row.1, (a l).row.2);
       copies = copies;
-      shaped = still_shaped (a l) c.link.new.self (still l);
-      sized = (ap (λ (y : Theirs). y.old) is ∙ (a l).sized.0, still_sized (a l) c.link.new.self (still l) ∙ sym (ap (λ (y : Theirs). y.size) is));
-      same = ap (λ (y : Theirs). y.replicas) is ∙ still_same (a l) c.link.new.self (still l);
+      shaped = (a l).shaped;
+      sized = (ap (λ (y : Theirs). y.old) is ∙ (a l).sized.0, (a l).sized.1 ∙ sym (ap (λ (y : Theirs). y.size) is));
+      same = ap (λ (y : Theirs). y.replicas) is ∙ (a l).same;
       scans = (ap (λ (y : Theirs). y.scan_place) is ∙ (a l).scans.0, ap (λ (y : Theirs). y.scan_field) is ∙ (a l).scans.1);
       dues = (ap (λ (y : Theirs). y.due) is ∙ (a l).dues.0, (a l).dues.1, (a l).dues.2);
       wants = ap (λ (y : Theirs). y.wanted) is;
@@ -304,9 +299,9 @@ invariant_of-self-in-Err c =
       fills = λ q k e n. absurd (n c.requires.filled);
       claimed = subst (Claims (a l).claims.items) (sym is) (claims_as (a l).claims.items (t l) u refl refl (a l).claimed);
       loose = loose l;
-      along = along_still (a l).standing (a l).seat.me c.load-word.new.seat.me (a l).space c.link.new.self (ap (λ (m : Sat). m.0.seen) went) (still l) (a l).along;
-      knows = knows_kept (a l).standing (a l).seat.me c.load-word.new.seat.me (a l).space c.link.new.self u (ap (λ (m : Sat). m.0.seen) went) (still l) is (wants_brings x (t l)) (a l).knows;
-      spared = still_spared (a l) c.link.new.self.size (ap (λ (x : SpaceWords). x.size) (still l));
+      along = along_still (a l).standing (a l).seat.me c.load-word.new.seat.me (a l).space c.args.self.now.space (ap (λ (m : Sat). m.0.seen) went) refl (a l).along;
+      knows = knows_kept (a l).standing (a l).seat.me c.load-word.new.seat.me (a l).space c.args.self.now.space u (ap (λ (m : Sat). m.0.seen) went) refl is (wants_brings x (t l)) (a l).knows;
+      spared = (a l).spared;
     }
 
 pub returns-in-Ok-clause-seat : goal.returns-in-Ok-clause-seat
@@ -327,7 +322,7 @@ returns-then-is_scanned-clause-nears c =
     let s = at_scan a c.requires.low in
     let at = s.place_is ∙ sym a.scans.0 in
     nears_by a.seat.me c.load.new.seat.me (passed s.replica t)
-    (c.load.ensures.2.0 s.replica s.there at (scan_over a c.requires.low c.header-header.result c.header-header.ensures.value (c.is_scanned.ensures.done c.if-is_scanned.true)))
+    (c.load.ensures.2.0 s.replica s.there at (scan_over a c.requires.low c.header-header.result c.header-header.ensures (c.is_scanned.ensures.done c.if-is_scanned.true)))
     (λ end. passed_nears end t s.replica (scan_low t a.space (mem a) a.loose (let e = a.scans.0 in let l = c.requires.low in omega arith) s.replica s.there at) (scan_within t a.loose s.replica s.there at))
 
 pub returns-in-Ok-clause-nears : goal.returns-in-Ok-clause-nears

@@ -25,7 +25,7 @@ use Rattle.gc_concurrent.specs.declared.held.Held.{Held}
 use Rattle.gc_concurrent.proofs.InHand.{mem}
 use Rattle.gc_concurrent.proofs.held.Held.check.Given as given
 use Rattle.gc_concurrent.proofs.held.Held.check.Goals as goal
-use Rattle.gc_concurrent.proofs.held.Held.check.Goals.{After-as_slice-5}
+use Rattle.gc_concurrent.proofs.held.Held.check.Goals.{After-as_slice-3}
 
 -- the words of a space are a space without room
 whole : (s : SpaceWords) → IsSpace s → IsSpace (record { size = length s.words; words = s.words })
@@ -68,45 +68,44 @@ no_fault first fault refusal none is told = let some : first ≡ Some refusal = 
 pub linked_pairs-requires-clause-shaped : goal.linked_pairs-requires-clause-shaped
 linked_pairs-requires-clause-shaped g c =
     let h = c.args.self.now in
-    subst (λ (words : List ℕ). IsSpace (record { size = length words; words = words })) (sym (c.as_slice.ensures.value ∙ (c.in_ok-placed.ensures.words ∙ ap (λ (s : SpaceWords). s.words) (c.old_words.ensures.space ∙ c.look.ensures.space))))
+    subst (λ (words : List ℕ). IsSpace (record { size = length words; words = words })) (sym (c.words-placed.ensures ∙ ap (λ (s : SpaceWords). s.words) (c.old_words.ensures.space ∙ c.look.ensures.space)))
     (whole h.copier.space h.copier.shaped)
 
 pub linked_pairs-requires-clause-links : goal.linked_pairs-requires-clause-links
 linked_pairs-requires-clause-links g c r l =
     let h = c.args.self.now in
-    let words : c.as_slice.result.now ≡ h.copier.space.words = c.as_slice.ensures.value ∙ (c.in_ok-placed.ensures.words ∙ ap (λ (s : SpaceWords). s.words) (c.old_words.ensures.space ∙ c.look.ensures.space)) in
+    let words : c.words-placed.result.now ≡ h.copier.space.words = c.words-placed.ensures ∙ ap (λ (s : SpaceWords). s.words) (c.old_words.ensures.space ∙ c.look.ensures.space) in
     (c.look.ensures.told h.roots.items h.sound c.requires.left).low (linked r)
-    (subst (In (linked r)) (linked_is h c.as_slice.result.now words) (in_map linked r (replicas_in c.as_slice.result.now) l))
+    (subst (In (linked r)) (linked_is h c.words-placed.result.now words) (in_map linked r (replicas_in c.words-placed.result.now) l))
 
 -- what is known of this flip, and what the checker is shown
-told : (g : given.Over) (c : After-as_slice-5 g) → FlipOf c.args.self.now
+told : (g : given.Over) (c : After-as_slice-3 g) → FlipOf c.args.self.now
 told g c = c.look.ensures.told c.args.self.now.roots.items c.args.self.now.sound c.requires.left
 
-shown : (g : given.Over) (c : After-as_slice-5 g)
+shown : (g : given.Over) (c : After-as_slice-3 g)
     → ◌≡◌ {A = CertifiedPair} (record {
-      old = record { size = c.new_words.new.self.size; end = c.args.self.now.end; words = c.as_slice-2.result.now; roots = c.as_slice-3.result.now; raws = true };
-      new = record { size = c.size.result; end = c.end-new_end.result; words = c.as_slice-4.result.now; roots = c.args.moved.now; raws = true };
-      pairs = map addresses c.as_slice-5.result.now;
+      old = record { size = c.old_words.new.self.size; end = c.args.self.now.end; words = c.as_slice.result.now; roots = c.as_slice-2.result.now; raws = true };
+      new = record { size = c.size.result; end = c.end-new_end.result; words = c.words-placed.result.now; roots = c.args.moved.now; raws = true };
+      pairs = map addresses c.as_slice-3.result.now;
     }) (flip_shown (heap_held c.args.self.now) (known_to c.args.self.now.copier))
 shown g c =
     let still = c.old_words.ensures.space ∙ c.look.ensures.space in
-    let now = c.new_words.ensures.space ∙ still in
-    let placed = c.in_ok-placed.ensures.words ∙ ap (λ (s : SpaceWords). s.words) still in
-    asks c.args.self.now _ _ _ _ _ _ _ _ (told g c) (c.new_words.ensures.row.1 ∙ (c.old_words.ensures.row.1 ∙ c.look.ensures.row.1))
-    (c.as_slice-2.ensures.value ∙ (c.in_ok-words.ensures.words ∙ ap (λ (m : Sat). m.0.mine.space.words) c.look.ensures.same))
-    c.as_slice-3.ensures.value c.requires.moved (c.size.ensures.value ∙ ap (λ (s : SpaceWords). s.size) now) (c.end-new_end.ensures.value ∙ ap (λ (s : SpaceWords). end_of s) now)
-    (c.as_slice-4.ensures.value ∙ placed) (ap (map addresses) c.as_slice-5.ensures.value ∙ (c.in_ok-pairs.ensures.pairs ∙ ap linked_in (c.as_slice.ensures.value ∙ placed)))
+    let placed = c.words-placed.ensures ∙ ap (λ (s : SpaceWords). s.words) still in
+    asks c.args.self.now _ _ _ _ _ _ _ _ (told g c) (c.old_words.ensures.row.1 ∙ c.look.ensures.row.1)
+    (c.as_slice.ensures.value ∙ (c.in_ok-words.ensures.words ∙ ap (λ (m : Sat). m.0.mine.space.words) c.look.ensures.same))
+    c.as_slice-2.ensures.value c.requires.moved (c.size.ensures.value ∙ ap (λ (s : SpaceWords). s.size) still) (c.end-new_end.ensures.value ∙ ap (λ (s : SpaceWords). end_of s) still)
+    placed (ap (map addresses) c.as_slice-3.ensures.value ∙ (c.in_ok-pairs.ensures.pairs ∙ ap linked_in placed))
 
 pub returns-in-Err-Refused-clause-memory : goal.returns-in-Err-Refused-clause-memory
 returns-in-Err-Refused-clause-memory g c =
-    let l = (goal.at.returns-in-Err-Refused-clause-memory g c).After-as_slice-5 in
+    let l = (goal.at.returns-in-Err-Refused-clause-memory g c).After-as_slice-3 in
     absurd (no_fault _ c.in-Err-Refused.field-0 c.in-Err-Refused.field-0-0
     ((c.no_fault_where_certified.ensures _ _ _).1 (subst (λ (p : CertifiedPair). Certified p.old p.new p.pairs) (sym (shown g l)) ((told g l).certified (new_links (its (known_to c.args.self.now.copier))))))
     c.in-Err-Refused.field-0-is c.in-Err-Refused.ensures.refused)
 
 pub returns-in-Ok-clause-asked : goal.returns-in-Ok-clause-asked
 returns-in-Ok-clause-asked g c =
-    let l = (goal.at.returns-in-Ok-clause-asked g c).After-as_slice-5 in
+    let l = (goal.at.returns-in-Ok-clause-asked g c).After-as_slice-3 in
     subst (g.C.Checks.says_yes c.args.checker.now) (shown g l) c.in-Ok.ensures.said
 
 pub returns-in-Ok-clause-certified : goal.returns-in-Ok-clause-certified
