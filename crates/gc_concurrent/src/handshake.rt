@@ -375,7 +375,7 @@ pub struct Unflipped {
 
 impl Holding {
     ghost use Rattle.std.specs.Prelude.{IfErr, IsFalse, IsTrue, OnOk};
-    ghost use Rattle.gc_concurrent.specs.Works.{KeepsBeginning, WhereDone, WhereNoRoom};
+    ghost use Rattle.gc_concurrent.specs.Works.{KeepsBeginning, KeepsOrBegins, StandsOrBegins, WhereDone, WhereNoRoom};
     ghost use Rattle.gc_concurrent.specs.Holders.{heap_held, may_flip, roots_placed, IsNearer, StaysOrIsNearer};
 
     /// Gives the target of each root a replica, while the mutator waits. Does not allocate. Returns false if one found no room. The time grows with the number
@@ -434,7 +434,7 @@ impl Holding {
     /// Lets the mutator go on in the new space, and begins the next collection, if the standing checker vouches for it. That checker looks at the roots and
     /// at the objects made since the mutator last stopped. This checker is asked in its place only if the turns say that a whole check is due. It checks both
     /// spaces whole, so the time then grows with the heap, and allocates for that. Fails if something is left to do, if the checker that was asked refuses,
-    /// or if an allocation fails. Nothing has changed then.
+    /// or if an allocation fails. Nothing has changed then, but where the new cells got no second owner: the collection has begun anew, in a space of one word.
     ///
     /// A ready collection is proved to pass. It is checked all the same, so that a flip rests on a checker's theorem alone, which knows nothing of the
     /// collector.
@@ -449,7 +449,8 @@ impl Holding {
         ensures carried { OnOk result ((beginning_held self.held).referred ≡ false → CopiesNothingUnreachable (known_to self.held.copier)) }
         ensures heap { IfErr result (λ refused. heap_held refused.holding.held ≡ heap_held self.held) }
         ensures since { IfErr result (λ refused. beginning_held refused.holding.held ≡ beginning_held self.held) }
-        ensures known { IfErr result (λ refused. known_to refused.holding.held.copier ≡ known_to self.held.copier) }
+        ensures known { IfErr result (λ refused. refused.why ≢ NoFlip.NoMemory → known_to refused.holding.held.copier ≡ known_to self.held.copier) }
+        ensures memory { IfErr result (λ refused. StandsOrBegins (known_to self.held.copier) (known_to refused.holding.held.copier)) }
         ensures not_ready { IfErr result (λ refused. refused.why ≡ NoFlip.NotReady → may_flip self.held ≡ false) }
         ensures turns { IfOk result (λ collector. TurnsBy (C.says_yes checker.now (flip_shown (heap_held self.held) (known_to self.held.copier)))
             (IsVouchedBy self.held.copier.standing (heap_held self.held) (known_to collector.copier).base) self.turns collector.turns) }
@@ -497,7 +498,8 @@ impl Holding {
         ensures why { IfErr result (λ refused. refused.why ≡ NoFlip.NotReady → (known_to self.held.copier).size < (known_to self.held.copier).old) }
         ensures heap { IfErr result (λ refused. heap_held refused.holding.held ≡ heap_held self.held) }
         ensures since { IfErr result (λ refused. beginning_held refused.holding.held ≡ beginning_held self.held) }
-        ensures begun { IfErr result (λ refused. KeepsBeginning (known_to self.held.copier) (known_to refused.holding.held.copier)) }
+        ensures begun { IfErr result (λ refused. refused.why ≢ NoFlip.NoMemory → KeepsBeginning (known_to self.held.copier) (known_to refused.holding.held.copier)) }
+        ensures memory { IfErr result (λ refused. KeepsOrBegins (known_to self.held.copier) (known_to refused.holding.held.copier)) }
         ensures turns { IfOk result (λ collector. TurnsBy ((t : Theirs) × C.says_yes checker.now (flip_shown (heap_held self.held) t))
             (IsVouchedFor (heap_held self.held) (known_to collector.copier).base) self.turns collector.turns) }
         ensures along { IfOk result (λ collector. whole_is_due self.turns ≡ false → IsVouchedFor (heap_held self.held) (known_to collector.copier).base) }

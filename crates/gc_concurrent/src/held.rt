@@ -17,7 +17,7 @@ ghost use Rattle.gc_model.specs.Carried.{LeadsOnlyTo};
 ghost use Rattle.gc_concurrent.specs.Unreachable.{MayBeCopied, CopiesNothingUnreachable};
 ghost use Rattle.gc_concurrent.specs.Internal.Props.{heap_prop, leads_prop};
 ghost use Rattle.gc_concurrent.specs.Ends.{begun_with, its, one_heap, opening_theirs};
-ghost use Rattle.gc_concurrent.specs.Internal.Rule.{begun_anew, entries_of_fields, StartsThere};
+ghost use Rattle.gc_concurrent.specs.Internal.Rule.{entries_of_fields, StartsThere};
 ghost use Rattle.gc_concurrent.specs.Internal.Starts.{TellsStarts};
 ghost use Rattle.gc_concurrent.specs.Internal.Flip.{HasNothingLeft, Flips};
 ghost use Rattle.gc_concurrent.specs.Internal.Copiers.{AreClaimed, KeepsReplicas, LacksOne, moved_by};
@@ -205,7 +205,7 @@ impl From<NoMemory> for NoFlip {
 
 impl Held {
     ghost use Rattle.std.specs.Prelude.{IsFalse};
-    ghost use Rattle.gc_concurrent.specs.Works.{KeepsBeginning, WhereDone, WhereNoRoom};
+    ghost use Rattle.gc_concurrent.specs.Works.{KeepsBeginning, StandsOrBegins, WhereDone, WhereNoRoom};
     ghost use Rattle.gc_concurrent.specs.Holders.{beginning_held, beginning_of, heap_held, heap_in, known_to, log_length, logs_writes, may_flip, moves_held, moves_in, roots_placed, situation_in, IsNearer, StaysOrIsNearer};
     ghost use Rattle.gc_concurrent.specs.Internal.Settled.{IsSettled};
 
@@ -376,7 +376,8 @@ impl Held {
         ensures heap { IfErr result (λ r. heap_held r.0 ≡ heap_held self) }
         ensures moves { IfErr result (λ r. moves_held r.0 ≡ moves_held self) }
         ensures since { IfErr result (λ r. beginning_held r.0 ≡ beginning_held self) }
-        ensures known { IfErr result (λ r. (known_to r.0.copier ≡ known_to self.copier) ⊎ ((r.1 ≡ NoFlip.NoMemory) × (known_to r.0.copier ≡ begun_anew 1 (known_to self.copier)))) }
+        ensures known { IfErr result (λ r. r.1 ≢ NoFlip.NoMemory → known_to r.0.copier ≡ known_to self.copier) }
+        ensures memory { IfErr result (λ r. StandsOrBegins (known_to self.copier) (known_to r.0.copier)) }
         ensures not_ready { IfErr result (λ r. r.1 ≡ NoFlip.NotReady → may_flip self ≡ false) }
         ensures same { IfErr result (λ r. r.0.copier.seat.table_id ≡ self.copier.seat.table_id) }
     {

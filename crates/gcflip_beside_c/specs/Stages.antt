@@ -11,7 +11,7 @@ use Rattle.gc_model.specs.Steps.{is_ready, roots_done}
 use Rattle.gc_concurrent.specs.Ends.{Theirs, its, opening_theirs}
 use Rattle.gc_concurrent.specs.Heaps.{GoesOnIn}
 use Rattle.gc_concurrent.specs.Nearing.{steps_ahead}
-use Rattle.gc_concurrent.specs.Works.{KeepsBeginning, TakesLog, WhereDone}
+use Rattle.gc_concurrent.specs.Works.{KeepsBeginning, KeepsOrBegins, StandsOrBegins, TakesLog, WhereDone}
 use Rattle.gc_concurrent.specs.Checking.{FlippedBy, CertifiesFlip, IsVouchedFor, flip_shown}
 use Rattle.gc_concurrent.specs.Turns.{TurnsBy}
 use Rattle.gc_concurrent.specs.declared.turns.Turns.{Turns}
@@ -164,7 +164,7 @@ abbrev pub FlipsHeld : (CertifiedPair → Type 0) → HandleStage → HandleStag
 FlipsHeld says (works t) new answer = (answer ≡ not_yet) × (new ≡ works t)
 FlipsHeld says (asks t) new answer = (answer ≡ not_yet) × (new ≡ asks t)
 FlipsHeld says (holds t heap) new answer =
-    ((answer ≡ flip_made) × WorksAfter (IsFlip says t heap) new) ⊎ ((answer ≡ not_ready) × (is_ready (its t) (graph_in heap) ≡ false) × (new ≡ holds t heap)) ⊎ ((answer ≡ no_memory) × (new ≡ holds t heap))
+    ((answer ≡ flip_made) × WorksAfter (IsFlip says t heap) new) ⊎ ((answer ≡ not_ready) × (is_ready (its t) (graph_in heap) ≡ false) × (new ≡ holds t heap)) ⊎ ((answer ≡ no_memory) × HoldsOn (StandsOrBegins t) heap new)
 FlipsHeld says old new answer = (answer ≡ closed_handle) × (new ≡ old)
 
 -- Roots' targets got replicas, and the steps that were left led to such a flip. It is refused only for lack of memory, or if the new space is smaller than the mutator's.
@@ -173,7 +173,7 @@ FinishesHeld says (works t) new answer = (answer ≡ not_yet) × (new ≡ works 
 FinishesHeld says (asks t) new answer = (answer ≡ not_yet) × (new ≡ asks t)
 FinishesHeld says (holds t heap) new answer =
     ((answer ≡ flip_made) × WorksAfter (λ u. FlippedBy says heap u.base × (u ≡ opening_theirs u.base t.size 1)) new)
-    ⊎ ((answer ≡ not_ready) × (t.size < t.old) × HoldsOn (KeepsBeginning t) heap new) ⊎ ((answer ≡ no_memory) × HoldsOn (KeepsBeginning t) heap new)
+    ⊎ ((answer ≡ not_ready) × (t.size < t.old) × HoldsOn (KeepsBeginning t) heap new) ⊎ ((answer ≡ no_memory) × HoldsOn (KeepsOrBegins t) heap new)
 FinishesHeld says old new answer = (answer ≡ closed_handle) × (new ≡ old)
 
 -- ---- which flips ask the whole checker

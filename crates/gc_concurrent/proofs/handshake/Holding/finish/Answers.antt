@@ -13,7 +13,8 @@ use Rattle.gc_heap.specs.Heap.{HeapWords, graph_in}
 use Rattle.gc_model.specs.State.{new_graph}
 use Rattle.gc_concurrent.specs.declared.handshake.Collector.{Collector}
 use Rattle.gc_concurrent.specs.Checking.{CertifiesFlip, FlippedBy, IsVouchedBy, IsVouchedFor, flip_shown}
-use Rattle.gc_concurrent.specs.Ends.{Theirs, its}
+use Rattle.gc_concurrent.specs.Ends.{Theirs, its, opening_theirs}
+use Rattle.gc_concurrent.specs.Works.{KeepsBeginning, KeepsOrBegins, StandsOrBegins}
 use Rattle.gc_concurrent.specs.Turns.{IfAsked, TurnsBy, after_flip, whole_is_due}
 use Rattle.gc_concurrent.specs.declared.turns.Turns.{Turns}
 use Rattle.gc_concurrent.proofs.handshake.Holding.finish.Goals as goal
@@ -72,3 +73,26 @@ pub returns-in-Done-clause-along : goal.returns-in-Done-clause-along
 returns-in-Done-clause-along g c =
     along_by c.flip.result c.work.new.self.held (heap_held c.args.self.held) c.args.self.turns c.work.new.self.turns
     (c.in-Done.ensures.heap ∙ c.loop-holding.invariant.heap) (c.in-Done.ensures.turns ∙ c.loop-holding.invariant.turns) c.flip.ensures.along
+
+-- ---- what is left where no flip was made
+
+after_both : (s t u : Theirs) → KeepsBeginning s t → KeepsBeginning t u → KeepsBeginning s u
+after_both s t u a b = record { base = b.base ∙ a.base; from = b.from ∙ a.from; into = b.into ∙ a.into }
+
+kept_by : (r : Result Collector Unflipped) (t u : Theirs) → KeepsBeginning t u → IfErr r (λ x. (x.why ≡ reasons.NoMemory → ⊥) → known_to x.holding.held.copier ≡ u)
+    → IfErr r (λ x. (x.why ≡ reasons.NoMemory → ⊥) → KeepsBeginning t (known_to x.holding.held.copier))
+kept_by (Ok c) t u k told = tt
+kept_by (Err x) t u k told = λ other. subst (KeepsBeginning t) (sym (told other)) k
+
+begins_by : (r : Result Collector Unflipped) (t u : Theirs) → KeepsBeginning t u → IfErr r (λ x. StandsOrBegins u (known_to x.holding.held.copier)) → IfErr r (λ x. KeepsOrBegins t (known_to x.holding.held.copier))
+begins_by (Ok c) t u k told = tt
+begins_by (Err x) t u k told = ⊎_elim
+    (λ e. inl (subst (KeepsBeginning t) (sym e) k))
+    (λ e. inr (e ∙ (λ i. opening_theirs (k.base i) (k.from i) 1)))
+    told
+
+pub returns-in-Done-clause-begun : goal.returns-in-Done-clause-begun
+returns-in-Done-clause-begun g c = kept_by c.flip.result _ _ (after_both _ _ _ c.loop-holding.invariant.begun c.in-Done.ensures.begun) c.flip.ensures.known
+
+pub returns-in-Done-clause-memory : goal.returns-in-Done-clause-memory
+returns-in-Done-clause-memory g c = begins_by c.flip.result _ _ (after_both _ _ _ c.loop-holding.invariant.begun c.in-Done.ensures.begun) c.flip.ensures.memory
