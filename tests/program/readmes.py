@@ -16,7 +16,7 @@ EXPORT = re.compile(r"(?s)((?:\w+::)*)(?:(\w+)|\{([\w\s,]*)\})")
 QUALIFIERS = r"pub (?:const |unsafe |extern \"C\" )*"
 DEFINED = re.compile(r"(?m)^%s(?:fn|struct|enum|trait|type|union) (\w+)" % QUALIFIERS)
 PUBLIC = re.compile(r" *%sfn " % QUALIFIERS)
-OWNER = re.compile(r"impl(?:<[^>]*>)? *(\w+)")
+OWNER = re.compile(r"impl(?:<(?:[^<>]|<[^<>]*>)*>)? *(\w+)")
 CLAUSE = re.compile(r" *ensures\*? (?:(\w+) )?\{")
 # The name of a clause that has none, and what the last cell of a row says instead of the names of clauses.
 UNNAMED = "ensures"

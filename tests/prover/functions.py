@@ -6,7 +6,7 @@ import re
 KEPT = 256
 
 HEAD = re.compile(r"""(?m)^(?: *(?://|#\[).*\n)* *(?:pub(?:\([^)]*\))? )?(?:(?:(?:const|unsafe|extern "C") )*fn (\w+)|(?:const|struct|enum|trait|impl)\b[^\n{]*)""")
-IMPL = re.compile(r"impl(?:<[^>]*>)? *(?:(?:\w+::)*(\w+(?:<\w+>)?) for )?(&\[)?(\w+)")
+IMPL = re.compile(r"impl(?:<(?:[^<>]|<[^<>]*>)*>)? *(?:(?:\w+::)*(\w+(?:<\w+>)?) for )?(&\[)?(\w+)")
 TRAIT = re.compile(r"(?:pub(?:\([^)]*\))? )?trait (\w+)")
 # In the layout of `rt fmt`, each clause begins a line, and so do the ghost members of a type.
 CLAUSE = re.compile(r" *(?:requires|ensures|ghost)\b(?! use\b)")

@@ -1,13 +1,12 @@
 -- The data fields of a `Shared` and of a `Seat`. Assumes `Logic`.
-use Rattle.std.proofs.Common.{◌≡◌, ℕ, ◌^◌, ◌<◌, T, List, [], ◌∷◌, ◌++◌, refl, ap, ◌∙◌, w64}
+use Rattle.std.proofs.Common.{◌≡◌, T, List, [], ◌∷◌, ◌++◌, refl, ap, ◌∙◌}
 use seplogic.Ra.Ura.{Ura}
-use mir.Syntax.{Sym, Ty, ty_ptr, ty_int, ty_struct, tcons, tnil}
-use mir.Val.{Val, vint, vstruct, vcons, vnil, of_list, has_ty, WT}
+use mir.Syntax.{Ty, ty_ptr, ty_struct, tcons, tnil}
+use mir.Val.{Val, vstruct, vcons, vnil, of_list, has_ty, WT}
 use base.Logic.{ent, emp}
 use types.Logic.{Logic, sem}
 use denote.RattleType.{RattleType}
 use denote.Laws.{Is}
-use denote.Ref.{NamedLft, ShrRef}
 use denote.Opens.{Opens}
 use denote.Copied.{Struct-Copied}
 use denote.RawPtr.{Ptr, block_ptr, null_ptr, ptr_val, InBlock}
@@ -57,9 +56,6 @@ token_val = vstruct (vcons (vstruct vnil) vnil)
 module _ (R U : RattleType) where
   abbrev pub Token : RattleType
   Token = Struct (shape (seat.the_type R U))
-
-  pub token_told : (vs : List Val) → Is Token (tt, tt) vs → vs ≡ token_val ∷ []
-  token_told vs is = is.1.0 ∙ ap (λ (ws : List Val). vstruct (of_list (ws ++ [])) ∷ []) is.1.1.0.1.0
 
   pub token_made : {M : Type 1} {𝓤 : Ura M} (𝓛 : Logic 𝓤) → ent 𝓤 (emp 𝓤) (sem 𝓛 (Token.own_val (tt, tt) (token_val ∷ [])))
   token_made 𝓛 = makes_shadow 𝓛 (Token.own_val (tt, tt) (token_val ∷ [])) (λ vss. (tt, ((λ uss. (tt, tt)), tt))) ((vstruct vnil ∷ [], tt), (refl, ((tt, (refl, tt)), tt)))

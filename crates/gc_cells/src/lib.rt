@@ -1,5 +1,7 @@
-//! Words that change in single atomic steps, under a rule of the user's over plain data, and that begin as a plain row. A fork of the toolchain's
-//! `atomic_table`, whose tables copy the words with which they begin.
+//! Words that threads share, each of which changes in single atomic steps. A table takes over the words of a plain vector, and gives them back. The crate is
+//! a fork of the toolchain's `atomic_table`, whose tables copy the words with which they begin.
+#![tactic(auto)]
+
 mod send_lease;
 mod shared;
 mod shell;

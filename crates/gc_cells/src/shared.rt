@@ -1,4 +1,4 @@
-//! The table as threads see it, and what one of them knows.
+//! The words as threads share them, and what one thread knows of them.
 ghost use Rattle.core.specs.Prelude.{◌≡◌, ℕ, List, [], length};
 ghost use Rattle.atomic_table.specs.Table.{State, Me, opening, Final, Seen};
 ghost use Rattle.atomic_table.specs.Seated.{TableId, table_id_coded, table_owns, table_shares, seat_owns};
@@ -6,15 +6,15 @@ ghost use Rattle.atomic_table.specs.Seated.{TableId, table_id_coded, table_owns,
 use crate::strip::Strip;
 use std::marker::{Model, PhantomData};
 
-/// The user's fact about the words, the values at home and all views. `S` is what a slot would hold, `V` what a seat knows, and `K` what the table is told
-/// once, when it is made.
+/// The fact `holds` about the words and the views of all seats, which is true between any two steps. The user of this crate chooses it. `V` is what a seat knows,
+/// and `K` the key, which is fixed when the table is made. `S` is the type of the values that a table of the toolchain has in slots. A table of this crate has none.
 pub trait TableRule<S, V, K> {
     ghost holds: { K → State S V → Type 0 };
-    // The view of the first seat of a table that begins with these words.
+    // The view of the first seat, for a table with this key that begins with these words.
     ghost first: { K → List ℕ → V };
 }
 
-/// The words, which threads share through a `&`.
+/// The words of a table, on which threads step through a `&`. Contracts name a table by its `table_id`.
 pub struct Shared<S, V, K, P: TableRule<S, V, K>> {
     pub(crate) words: *mut u64,
     pub(crate) slots: *mut S,
@@ -29,7 +29,8 @@ impl<S, V, K, P: TableRule<S, V, K>> Model for Shared<S, V, K, P> {
     ghost also_shares = { λ t _ κ. table_shares S.row V.row.coded.code (P.holds t.key) t.words t.slots t.table_id κ };
 }
 
-/// The right to step on a table, and what its owner knows. It has no bytes.
+/// The right to step on a table, and its view: what its owner knows of the words. It has no bytes. Only its own steps change its view. A seat that is dropped
+/// leaves its view behind, so the rule has to hold of that view from then on.
 pub struct Seat<S, V> {
     pub(crate) marker: PhantomData<(S, V)>,
     pub ghost table_id: { TableId } by { table_id_coded },
@@ -42,6 +43,7 @@ impl<S, V> Model for Seat<S, V> {
 }
 
 impl<S, V, K, P: TableRule<S, V, K>> Shared<S, V, K, P> {
+    /// Puts words under the rule, and returns the first seat.
     pub(crate) fn deal(
         about: &K,
         words: Strip<u64>,
@@ -66,6 +68,7 @@ impl<S, V, K, P: TableRule<S, V, K>> Shared<S, V, K, P> {
         )
     }
 
+    /// Returns the words as they are at the end, in a state that meets the rule and has the seat's view. No thread shares them any more.
     pub(crate) fn gather_with(self, seat: &mut Seat<S, V>) -> (Strip<u64>, Strip<S>)
         requires { seat.old.table_id ≡ self.table_id }
         ensures places { (result.0.ptr ≡ self.words) × (length result.0.items ≡ self.table_id.words) × (result.1.ptr ≡ self.slots) × (length result.1.items ≡ self.table_id.slots) }
@@ -79,6 +82,7 @@ impl<S, V, K, P: TableRule<S, V, K>> Shared<S, V, K, P> {
         (Strip { ptr: words }, Strip { ptr: slots })
     }
 
+    /// Returns the same without a seat: the state meets the rule.
     pub(crate) fn gather(self) -> (Strip<u64>, Strip<S>)
         ensures places { (result.0.ptr ≡ self.words) × (length result.0.items ≡ self.table_id.words) × (result.1.ptr ≡ self.slots) × (length result.1.items ≡ self.table_id.slots) }
         ensures values { Final (P.holds self.key) result.0.items result.1.items }

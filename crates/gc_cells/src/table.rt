@@ -1,4 +1,4 @@
-//! The table with its memory.
+//! A table: words that threads share, with their memory.
 ghost use Rattle.std.specs.Prelude.{◌≡◌, ◌<◌, [], length, IfOk, IfErr};
 ghost use Rattle.core.specs.Mem.Slots.{lease_ptr, lease_len, lease_heap};
 ghost use Rattle.atomic_table.specs.Table.{opening, Final, Seen};
@@ -10,7 +10,8 @@ use crate::strip::Strip;
 use core::slots::{release, reserve};
 use std::alloc::Allocator;
 
-/// Words that threads share. A table has no slots: their type is that of what a step tells its `Play`.
+/// Words that threads share, in the memory of the vector from which they came. A table that is dropped frees them. It has no slots, and `slot_lease` is
+/// the right to free the empty row of them.
 pub struct Table<S, V, K, P: TableRule<S, V, K>, A: Allocator> {
     pub shared: Shared<S, V, K, P>,
     shell: Shell<A>,
@@ -22,7 +23,8 @@ pub struct Table<S, V, K, P: TableRule<S, V, K>, A: Allocator> {
 }
 
 impl<S, V, K, P: TableRule<S, V, K>, A: Allocator> Table<S, V, K, P, A> {
-    /// Makes a table of these words, which it takes over. If an allocation fails, they come back.
+    /// Makes a table of these words, at least one, and returns it with its first seat. Copies no word. Returns the vector if an allocation fails; its words
+    /// are then unchanged.
     pub fn of_vec(
         alloc: A,
         mut words: Vec<u64, A>,
@@ -48,7 +50,7 @@ impl<S, V, K, P: TableRule<S, V, K>, A: Allocator> Table<S, V, K, P, A> {
         Ok((table, seat))
     }
 
-    /// Gives the words back, as they are when no thread shares them any more.
+    /// Returns the words in the vector from which they came, as they are now that no thread shares them. Copies no word.
     pub fn into_vec(self, mut seat: Seat<S, V>) -> Vec<u64, A>
         requires { seat.table_id ≡ self.shared.table_id }
         ensures { Final (Seen (P.holds self.shared.key) seat.id seat.me.0) result.items [] }

@@ -1,2 +1,3 @@
+mod cells;
 mod handshakes;
 mod runs;

@@ -46,7 +46,7 @@ use Rattle.std.proofs.lemmas.List.{with_items_is}
 use Rattle.atomic_table.specs.Seated.{strip}
 use Rattle.atomic_table.proofs.Dealing.{strip_lies}
 use Rattle.gc_cells.proofs.Fields.{strip_of, strip_good, StripData, strip_told}
-use denote.RawPtr.{Ptr, InBlock}
+use denote.RawPtr.{InBlock}
 use denote.Laws.{Is, shows}
 use denote.Memory.{mem}
 use Rattle.gc_cells.specs.contracts.shell.attach as F

@@ -1,5 +1,6 @@
+-- A `SendLease` may go to another thread if its allocator may.
 use denote.RattleType.{RattleType}
-use denote.Param.Send.{IsSend, IsSync, Frees, sendable, part_keyless}
+use denote.Param.Send.{IsSend, Frees}
 use Rattle.core.specs.declared.alloc.Allocator.{Ghosts}
 use Rattle.gc_cells.specs.contracts.send_lease.SendLease.{the_row}
 use Rattle.gc_cells.proofs.Rights.{right_send}

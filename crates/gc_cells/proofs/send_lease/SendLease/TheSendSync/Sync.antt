@@ -1,5 +1,6 @@
+-- Threads may share a `SendLease` if its allocator may go to another thread.
 use denote.RattleType.{RattleType}
-use denote.Param.Send.{IsSend, IsSync, Frees, sendable, part_keyless}
+use denote.Param.Send.{IsSend, IsSync, Frees, part_keyless}
 use Rattle.core.specs.declared.alloc.Allocator.{Ghosts}
 use Rattle.gc_cells.specs.contracts.send_lease.SendLease.{the_row}
 use Rattle.gc_cells.proofs.Rights.{right_send}

@@ -1,5 +1,6 @@
+-- A seat may go to another thread.
 use denote.RattleType.{RattleType}
-use denote.Param.Send.{IsSend, IsSync, Frees, sendable, part_keyless}
+use denote.Param.Send.{IsSend}
 use Rattle.gc_cells.specs.contracts.shared.Seat.{the_row}
 use Rattle.atomic_table.proofs.Sent.{seat_keyless}
 

@@ -1,7 +1,8 @@
+-- The words of a table may go to another thread.
 use denote.RattleType.{RattleType}
-use denote.Param.Send.{IsSend, IsSync, Frees, sendable, part_keyless}
+use denote.Param.Send.{IsSend}
 use Rattle.gc_cells.specs.declared.shared.TableRule.{Ghosts}
-use Rattle.gc_cells.specs.contracts.shared.Shared.{the_row, the_type}
+use Rattle.gc_cells.specs.contracts.shared.Shared.{the_row}
 use Rattle.atomic_table.proofs.Sent.{owns_keyless}
 
 pub send : (S V K P : RattleType) (g : Ghosts P.Denot S.Denot V.Denot K.Denot) → IsSend S → IsSend (the_row S V K P g)

@@ -1,5 +1,6 @@
+-- Threads may share the words of a table.
 use denote.RattleType.{RattleType}
-use denote.Param.Send.{IsSend, IsSync, Frees, sendable, part_keyless}
+use denote.Param.Send.{IsSend, IsSync, sendable}
 use Rattle.gc_cells.specs.declared.shared.TableRule.{Ghosts}
 use Rattle.gc_cells.specs.contracts.shared.Shared.{the_row, the_type}
 use denote.Struct.Struct.{Struct}

@@ -1,3 +1,4 @@
+-- A `Shell` may go to another thread if its allocator may.
 use denote.RattleType.{RattleType}
 use denote.Param.Send.{IsSend, Frees}
 use Rattle.std.specs.declared.alloc.Allocator.{Ghosts}

@@ -1,3 +1,4 @@
+-- Threads may share a `Shell`, since a `&` to it gives nothing.
 use denote.RattleType.{RattleType}
 use denote.Param.Send.{IsSync}
 use Rattle.std.specs.declared.alloc.Allocator.{Ghosts}
