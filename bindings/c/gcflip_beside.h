@@ -285,7 +285,8 @@ uint32_t gcflip_beside_place_roots(gcflip_collector *collector);
 /* Flips if the collection is ready: GCFLIP_FLIPPED. The mutator may then go on in the new space. GCFLIP_NOT_READY if steps are left, or if a root's
  * object has no replica. GCFLIP_NOT_YET if the collector does not hold the mutator. A standing checker has compared each field beside the mutator. While
  * the mutator waits, it looks at the roots and at the objects made since the last stop, and is proved to accept. Only a flip whose number the option
- * `whole_each` names checks both spaces whole, in its place. After GCFLIP_NOT_READY and GCFLIP_NO_MEMORY nothing has changed. */
+ * `whole_each` names checks both spaces whole, in its place. After GCFLIP_NOT_READY nothing has changed. After GCFLIP_NO_MEMORY the heap has not, and the
+ * collection goes on as it stands. It would begin anew, in a space of one word, if a count of the owners of the new words were full, at 2^63. */
 uint32_t gcflip_beside_flip(gcflip_collector *collector);
 
 /* Reads how many flips each checker has accepted since the heap was opened: GCFLIP_DONE. A check of both spaces whole takes time and memory that grow with

@@ -4,7 +4,7 @@ use Rattle.std.specs.Prelude.{slice_index, slice_set, IsOk, IsSome}
 use Rattle.std.proofs.Math.Logic.{∥∥₁_elim}
 use Rattle.std.proofs.Props.{props}
 use Rattle.std.proofs.lemmas.Bool.{cases_Bool}
-use Rattle.std.proofs.lemmas.List.{get_or-set_same, length-replicate, set-get_or}
+use Rattle.std.proofs.lemmas.List.{get_or-set_same, length-replicate}
 use Rattle.gc_words.specs.Word.{header_word, read_header}
 use Rattle.gc_words.specs.Image.{header_at, field_at, walk_words}
 use Rattle.gc_words.specs.Layout.{field_place, link_place}
@@ -93,14 +93,6 @@ along_written t after seen after_seen space new back at i w moved written is has
 -- the field that was written is still there
 pub field_again : (space new : SpaceWords) (at i moved : ℕ) → IsSpace space → IsSome (field_at space.words at i) → new ≡ with_field_at space at i moved → IsSome (field_at new.words at i)
 field_again space new at i moved is has set = ap (λ (s : SpaceWords). is_some (field_at s.words at i)) set ∙ put_field space at i moved is has at i has
-
--- a field keeps its word where that is written again
-pub field_same : (space : SpaceWords) (at i w : ℕ) → IsSpace space → field_at space.words at i ≡ Some w → with_field_at space at i w ≡ space
-field_same space at i w is found =
-    let p = field_place at i in
-    let one : Some w ≡ Some (slice_index space.words p) = sym found ∙ (field_read space.words at i is.walked (ap is_some found)).word in
-    let value : w ≡ slice_index space.words p = cc one in
-    ap (λ ws. record space { words = ws }) (ap (slice_set space.words p) value ∙ set-get_or space.words p 0)
 
 -- ---- a replica
 

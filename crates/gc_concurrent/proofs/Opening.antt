@@ -3,14 +3,13 @@ use Rattle.std.proofs.Common.{◌≡◌, ◌≢◌, ◌⊎◌, ℕ, zero, suc, e
 use Rattle.std.proofs.lemmas.Grind.{common_steps}
 use Rattle.std.proofs.lemmas.Bool.{eqb-true, cases_Bool, cases_lt}
 use prog.Atomic.{either}
-use lib.Seq.{set-get_or}
 use lib.ListN.{get_elem?}
 use mathlib.Core.Option.{some, none, some-injective, some-ne-none}
 use Rattle.atomic_table.specs.Table.{Splits, Joins, Allows, step, stepped, keeps, opening, Final, Seen}
 use Rattle.atomic_table.proofs.Lists.{at_set, set_else}
 use Rattle.gc_words.specs.Space.{IsSpace, empty_space}
 use Rattle.gc_concurrent.specs.Internal.Plain.{IsRowOfSpace, space_in}
-use Rattle.gc_words.proofs.Public.{closed_empty, space_of}
+use Rattle.gc_words.proofs.Public.{space_of}
 use Rattle.gc_words.specs.Image.{objects_of}
 use Rattle.gc_model.specs.Belonging.{HasField, IsLogged, IsOpened}
 use Rattle.gc_model.proofs.Public.{begun_belongs}
@@ -21,9 +20,9 @@ use Rattle.gc_concurrent.specs.Ends.{Known, Mine, Theirs, begun_with, one_heap, 
 use Rattle.gc_concurrent.specs.Unreachable.{MayBeCopied}
 use Rattle.gc_concurrent.specs.Internal.Plans.{collection_of, plan}
 use Rattle.gc_concurrent.specs.Internal.Carrying.{FieldsLeadTo, KeepsUnreachableOut}
-use Rattle.gc_concurrent.specs.Internal.Rule.{RootWords, Sat, Seated, IsAtRest, IsConcurrent, Loose, only_writes, only_copies, both_ends, spent_view, begun_anew, tells_renew}
+use Rattle.gc_concurrent.specs.Internal.Rule.{Sat, IsAtRest, IsConcurrent, Loose, only_writes, only_copies, both_ends, spent_view, begun_anew, tells_renew}
 use Rattle.gc_concurrent.proofs.Hands.{St, seat_set}
-use Rattle.gc_concurrent.proofs.Shown.{shown_anew, shown_set}
+use Rattle.gc_concurrent.proofs.Shown.{shown_set}
 use Rattle.gc_concurrent.proofs.Told.{caught_up}
 use Rattle.gc_concurrent.proofs.Loosely.{Leaves, loose_of, loosely}
 use Rattle.gc_concurrent.proofs.Copying.{theirs_keep}

@@ -1,15 +1,9 @@
 -- A space in plain words, and what a write there makes of it.
 use Rattle.std.proofs.Common.{◌≡◌, ◌≢◌, ◌∙◌, ℕ, zero, suc, ◌+◌, ◌-◌, ◌/◌, ◌<◌, ◌≤◌, true, List, [], ◌∷◌, ◌++◌, length, get_or, set, take, drop, replicate, Some, refl, sym, ap, subst, arith, length-append, length-set, append_assoc}
 use Rattle.std.specs.Prelude.{slice_index, IsSome}
-use Rattle.std.proofs.lemmas.List.{drop_at, drop-replicate, drop-set-lt, get_or-drop, get_or-take, get_or_read, length-replicate, length-take-le, replicate-append-replicate, set_at, take_at, take-append-drop, take-replicate}
-use lib.ListN.{get_elem?}
-use mathlib.Core.Option.{some, some-injective, some-ne-none}
-use Rattle.atomic_table.specs.Table.{opening}
-use Rattle.gc_heap.specs.Heap.{HeapWords, IsHeap}
-use Rattle.gc_model.proofs.Public.{begun_belongs}
-use Rattle.gc_copy.proofs.Public.{words_numbers}
+use Rattle.std.proofs.lemmas.List.{drop_at, drop-replicate, drop-set-lt, get_or-take, get_or_read, length-replicate, length-take-le, replicate-append-replicate, set_at, take_at, take-append-drop, take-replicate}
 use Rattle.gc_words.specs.Word.{IsHeader, header_word}
-use Rattle.gc_words.specs.Image.{Block, block_at, field_at, fresh_block, is_start, objects_of}
+use Rattle.gc_words.specs.Image.{Block, block_at, field_at, fresh_block, is_start}
 use Rattle.gc_words.specs.Spelling.{block_words}
 use Rattle.gc_words.specs.Layout.{field_place, link_place}
 use Rattle.gc_words.specs.Closed.{IsClosed, IsFieldWord}
@@ -17,15 +11,11 @@ use Rattle.gc_words.specs.Marks.{is_marked}
 use Rattle.gc_words.specs.Space.{SpaceWords, IsSpace, CanPlace, HasRoomFor, with_field_at, with_link, with_object, with_word}
 use Rattle.gc_words.specs.declared.header.Header.{Header}
 use Rattle.gc_words.proofs.Public.{closed_empty, closed_field, closed_objects, closed_placed, field_read, field_written, link_written, placed}
-use Rattle.gc_concurrent.specs.Ends.{Known, one_heap, opening_mine, opening_theirs, opening_view}
-use Rattle.gc_concurrent.specs.Internal.Rule.{IsConcurrent}
 use Rattle.gc_concurrent.specs.Internal.Plain.{IsRowOfSpace, space_in}
 use Rattle.gc_concurrent.specs.Internal.Starts.{TellsStarts}
-use Rattle.gc_concurrent.proofs.Keeping.{begins_kept}
-use Rattle.gc_concurrent.proofs.Told.{caught_up}
 use Rattle.gc_concurrent.proofs.Marking.{marks_linked, marks_made, marks_none, marks_written}
 use Rattle.gc_concurrent.proofs.Opening.{empty_shaped}
-use Rattle.gc_concurrent.proofs.Writing.{link_within, zero_at}
+use Rattle.gc_concurrent.proofs.Writing.{link_within}
 
 -- ---- a word is read
 
@@ -176,53 +166,3 @@ zeros_plain size row starts low high zeros none =
       wide = omega arith;
       marked = subst (λ (z : List ℕ × List ℕ). TellsStarts z.0 z.1) (λ i. (sym none i, sym words i)) (marks_none (size / 64 + 1));
     }
-
--- ---- cells of these words
-
--- a free word is 0
-free_word : (row : List ℕ) (end : ℕ) (starts : List ℕ) (k : ℕ) → IsRowOfSpace row end starts → end ≤ k → get_or row k 0 ≡ 0
-free_word row end starts k p far =
-    ap (λ n. get_or row n 0) (let e : k ≡ end + (k - end) = omega arith in e)
-    ∙ sym (get_or-drop end row (k - end) 0) ∙ ap (λ (ws : List ℕ). get_or ws (k - end) 0) p.free ∙ zero_at (length row - end) (k - end)
-
-one_seat : (v : Known) (j : ℕ) (u : Known) → get_elem? (v ∷ []) j ≡ some u → (j ≡ 0) × (v ≡ u)
-one_seat v zero u e = (refl, some-injective v u e)
-one_seat v (suc j) u e = absurd (some-ne-none u (sym e))
-
--- a collection of the heap begins in cells that are made from the row
-opens_row : (size : ℕ) (row : List ℕ) (end : ℕ) (starts roots : List ℕ) → IsRowOfSpace row end starts → length row ≡ size → IsHeap (one_heap (space_in row end) roots)
-    → IsConcurrent size (opening row [] (opening_view (one_heap (space_in row end) roots) 1))
-opens_row size row end starts roots p wide sound =
-    let heap : HeapWords = one_heap (space_in row end) roots in
-    let within : end ≤ length row = p.within in
-    let long : length (take end row) ≡ end = length-take-le end row within in
-    record {
-      mine = opening_mine heap;
-      theirs = opening_theirs heap heap.space.size 1;
-      seen = heap.space.words;
-      writer = 0;
-      copier = 0;
-      wide = wide;
-      sized = wide;
-      older = wide;
-      now = λ k l. sym (get_or-take end row k 0 (omega arith));
-      free = λ k l h. free_word row end starts k p (omega arith);
-      space = p.space;
-      closed = p.closed;
-      wanted = λ a h. absurd h;
-      opened = record { belongs = begun_belongs (objects_of heap.space.words) 2 1 (words_numbers heap.space.words) (omega arith); size = omega arith; logs = refl };
-      carries = record { begun = refl; behind = omega arith; fields = (begins_kept heap sound).fields; copied = λ r l. absurd l; wanted = λ a l. absurd l };
-      fits = p.space.end_low;
-      rests = λ _. record { logged = refl; copied = refl; due = refl; wanted = refl };
-      seats = λ j u e. let x = one_seat (opening_view heap 1) j u e in
-          ((λ _. (x.0, ap (λ (z : Known). z.mine) (sym x.1))), λ _. (x.0, ap (λ (z : Known). z.theirs) (sym x.1)));
-      told = caught_up (opening_mine heap) p.space refl;
-      shown = λ j u e _. ap (λ (z : Known). z.seen) (sym (one_seat (opening_view heap 1) j u e).1);
-    }
-
--- the same for callers, who see the space as another value
-opens_plain : (size : ℕ) (row : List ℕ) (end : ℕ) (starts roots : List ℕ) (t : SpaceWords) → space_in row end ≡ t → IsRowOfSpace row end starts → length row ≡ size → IsHeap (one_heap t roots)
-    → IsConcurrent size (opening row [] (opening_view (one_heap t roots) 1))
-opens_plain size row end starts roots t same p wide sound =
-    subst (λ (z : SpaceWords). IsConcurrent size (opening row [] (opening_view (one_heap z roots) 1))) same
-    (opens_row size row end starts roots p wide (subst (λ (z : SpaceWords). IsHeap (one_heap z roots)) (sym same) sound))

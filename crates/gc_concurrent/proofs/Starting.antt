@@ -3,12 +3,12 @@ use Rattle.std.proofs.Common.{◌≡◌, ◌⊎◌, inl, inr, ⊎_elim, ℕ, ◌
 use Rattle.std.specs.Prelude.{slice_index, IsOk, IsSome}
 use Rattle.std.proofs.lemmas.Bool.{cases_eq, cases_lt}
 use Rattle.std.proofs.lemmas.List.{get_or-set_other, get_or_append_left}
-use Rattle.gc_words.specs.Image.{blocks, block_in, block_at, field_at, fresh_block, is_start, walk_words}
-use Rattle.gc_words.specs.Layout.{field_place, link_place}
+use Rattle.gc_words.specs.Image.{blocks, block_in, field_at, fresh_block, is_start, walk_words}
+use Rattle.gc_words.specs.Layout.{field_place}
 use Rattle.gc_words.specs.Space.{SpaceWords, IsSpace, CanPlace, end_of, with_field_at, with_link, with_object}
 use Rattle.gc_words.specs.Spelling.{block_words}
 use Rattle.gc_words.specs.declared.header.Header.{Header}
-use Rattle.gc_words.proofs.Public.{field_beside, field_read, laid_out_words, link_written, objects_apart, placed_beside, some_of}
+use Rattle.gc_words.proofs.Public.{field_beside, field_read, laid_out_words, link_written, objects_apart, placed_beside}
 use Rattle.gc_model.specs.Members.{In}
 use Rattle.gc_model.proofs.Public.{in_left, in_right}
 use Rattle.gc_concurrent.specs.Internal.Told.{Event, Put, Make, after_all, CouldHappen, written_by}
@@ -55,18 +55,6 @@ same_object words a x i j ok e f same =
     (λ more. absurd (let past : x + (q.block.header.len + 2) ≤ a = objects_apart (blocks words) 1 x a q.block (laid_out_words words ok) q.found (ap is_some p.found) (omega arith) in omega arith))
     (cases_lt a x))
     (cases_eq a x)
-
--- no link is a field
-link_no_field : (words : List ℕ) (c a i : ℕ) → IsOk (walk_words words) → is_start words c ≡ true → IsSome (field_at words a i) → field_place a i ≡ link_place c → ⊥
-link_no_field words c a i ok start has same =
-    let f = field_read words a i ok has in
-    let b = some_of (block_at words c) start in
-    let m = f.has_field in
-    ⊎_elim (λ (is : a ≡ c). omega arith) (λ other. ⊎_elim
-    (λ less. (let past : a + (f.block.header.len + 2) ≤ c = objects_apart (blocks words) 1 a c f.block (laid_out_words words ok) f.found start less in omega arith))
-    (λ more. (let past : c + (b.0.header.len + 2) ≤ a = objects_apart (blocks words) 1 c a b.0 (laid_out_words words ok) b.1 (ap is_some f.found) (omega arith) in omega arith))
-    (cases_lt a c))
-    (cases_eq a c)
 
 -- a field that no event wrote has the word that it had
 pub field_unwritten : (s : SpaceWords) (es : List Event) → CouldHappen s es → (a i : ℕ) → IsSome (field_at s.words a i) → (In {X = ℕ × ℕ} (a, i) (written_by es) → ⊥)

@@ -4,11 +4,11 @@ use Rattle.std.specs.Prelude.{slice_get, slice_set, slice_index, IsSome}
 use Rattle.std.proofs.lemmas.Bool.{cases_eq, cases_lt, cond-true}
 use lib.Seq.{set-get_or}
 use Rattle.gc_words.specs.Image.{Block, block_in, block_at, header_of, header_at, field_in, field_at, fresh_block, is_start}
-use Rattle.gc_words.specs.Layout.{field_place, link_place}
+use Rattle.gc_words.specs.Layout.{field_place}
 use Rattle.gc_words.specs.Space.{SpaceWords, IsSpace, CanPlace, end_of, with_object, with_field_at, with_link}
 use Rattle.gc_words.specs.Spelling.{block_words}
 use Rattle.gc_words.specs.declared.header.Header.{Header}
-use Rattle.gc_words.proofs.Public.{field_read, field_written, field_block, field_beside, header_read, link_written, none_at_end, placed, placed_beside, placed_block}
+use Rattle.gc_words.proofs.Public.{field_read, field_written, field_block, field_beside, link_written, none_at_end, placed, placed_beside, placed_block}
 use Rattle.gc_concurrent.specs.Ends.{Mine}
 use Rattle.gc_concurrent.specs.Internal.Rule.{wrote, made}
 use Rattle.gc_concurrent.specs.Internal.Told.{Event, Put, Make, after_all, CouldHappen, written_by, seen_space, ComesFromSeen}

@@ -10,7 +10,7 @@ use lib.Seq.{set-get_or}
 use Rattle.atomic_table.specs.Table.{step, keeps, stepped, Allows}
 use Rattle.gc_graph.specs.Graph.{Value, Object, Graph, set_field, new_object}
 use Rattle.gc_words.specs.Word.{IsHeader, read_header, field_value, header_word}
-use Rattle.gc_words.proofs.Public.{read_back, field_written, link_written, graph_link, closed_objects, some_of, stands_in, graph_field, graph_placed, closed_field, closed_placed, placed, object_found, field_read, fields_counted, laid_out_words, objects_apart}
+use Rattle.gc_words.proofs.Public.{read_back, field_written, some_of, stands_in, graph_field, graph_placed, closed_field, closed_placed, placed, object_found, field_read, fields_counted, laid_out_words, objects_apart}
 use Rattle.gc_words.specs.Layout.{field_place, link_place}
 use Rattle.gc_words.specs.Image.{Block, blocks, block_at, field_at, is_start, objects_of, object_of_block}
 use Rattle.gc_words.specs.Space.{SpaceWords, IsSpace, CanPlace, end_of, with_field_at}
@@ -229,10 +229,7 @@ puts slots size id me a i w b writes found has is allowed s r _ here _ =
 
 -- ---- an object is made
 
--- objects that stay as they are
-same_evolves : (objects : List (ℕ × Object)) → Evolves objects objects (λ a i. ⊥)
-same_evolves objects a q x = record { now = q; found = x; raw = refl; kind = refl; len = refl; fields = λ j w y. inl y }
-
+-- objects behind which one more comes
 new_evolves : (objects : List (ℕ × Object)) (name : ℕ) (o : Object) → Evolves objects (objects ++ (name, o) ∷ []) (λ a i. ⊥)
 new_evolves objects name o a q x = record { now = q; found = lookup_left objects ((name, o) ∷ []) a q x; raw = refl; kind = refl; len = refl; fields = λ j w y. inl y }
 

@@ -6,6 +6,6 @@ pub use Rattle.gc_monitor.proofs.Origins.{placed, told}
 pub use Rattle.gc_monitor.proofs.Rows.{all_alike}
 pub use Rattle.gc_monitor.proofs.RowsAgree.{agree_due, agree_old, agree_replica, code_is, codes_length, due_at, in_front, map_append, within_row}
 pub use Rattle.gc_monitor.proofs.Seen.{all_done, all_of}
-pub use Rattle.gc_monitor.proofs.ToldTruth.{anywhere_tells, both_tells, dropped_tells, flipped_tells, link_anywhere_tells, new_more_tells, none_replicated, old_more_tells, opening_tells, original_field, placed_by_tells, saw_tells}
+pub use Rattle.gc_monitor.proofs.ToldTruth.{anywhere_tells, both_tells, dropped_tells, flipped_tells, new_more_tells, none_replicated, old_more_tells, opening_tells, original_field, placed_by_tells, saw_tells}
 pub use Rattle.gc_monitor.proofs.Walked.{true_stays}
 pub use Rattle.gc_monitor.specs.Internal.Watch.{opening_watch}

@@ -261,7 +261,8 @@ fn flipped<C: Checks>(alloc: Global, checker: &C, end: End) -> (End, u32)
 
 /// Flips if the collection is ready: the mutator that the collector holds may go on in the new space, and the next collection begins. The flip is made only
 /// if the standing checker vouches for it, or the checker accepts both spaces whole. Returns 43 if it flipped, and 41 if something is left to do or a root's object has no replica. Returns 13 if the
-/// collector does not hold the mutator, 3 if the handle has no collector, and 1 if an allocation fails. If it does not flip, nothing has changed.
+/// collector does not hold the mutator, 3 if the handle has no collector, and 1 if an allocation fails. If it does not flip, nothing has changed, but that
+/// after an answer of 1 the collection may have begun anew, as gc_concurrent's `Holding::flip` says.
 #[unsafe(no_mangle)]
 pub extern "C" fn gcflip_beside_flip(alloc: Global, collector: &mut GcflipEnd) -> u32
     ensures stages { FlipsHeld IsCertifiedPair (stage collector.old.end) (stage collector.new.end) result }

@@ -10,9 +10,9 @@ use Rattle.atomic_table.specs.Table.{State, Me, Step}
 use Rattle.gc_graph.specs.Graph.{Value, Num, Ref, Object, lookup, new_object}
 use Rattle.gc_graph.specs.Machine.{object_words}
 use Rattle.gc_words.specs.Word.{IsHeader, read_header, value_of, is_value, header_word}
-use Rattle.gc_words.specs.Layout.{field_place, link_place, next_place}
+use Rattle.gc_words.specs.Layout.{field_place, next_place}
 use Rattle.gc_words.specs.Image.{objects_of, header_at, field_at, is_start}
-use Rattle.gc_words.specs.Space.{IsSpace, end_of, with_object, with_field_at, with_link}
+use Rattle.gc_words.specs.Space.{IsSpace, end_of, with_object, with_field_at}
 use Rattle.gc_words.specs.Closed.{IsClosed}
 use Rattle.gc_words.specs.declared.header.Header.{Header}
 use Rattle.gc_model.specs.State.{Replica, Collection, replica_of, moved, new_end, new_free}
@@ -20,7 +20,7 @@ use Rattle.gc_model.specs.Steps.{with_written}
 use Rattle.gc_model.specs.Members.{In}
 use Rattle.gc_model.specs.Belonging.{IsOpened, BelongsBy}
 use Rattle.gc_heap.specs.Heap.{HeapWords}
-use Rattle.gc_concurrent.specs.Ends.{Mine, Theirs, its, one_heap, opening_mine, opening_theirs, opening_view}
+use Rattle.gc_concurrent.specs.Ends.{Mine, Theirs, its, one_heap, opening_mine, opening_theirs}
 use Rattle.gc_concurrent.specs.Moves.{half}
 use Rattle.gc_concurrent.specs.Internal.Carrying.{KeepsUnreachableOut}
 use Rattle.gc_concurrent.specs.Internal.Plans.{collection_of, plan}

@@ -26,7 +26,7 @@ use Rattle.gc_concurrent.proofs.Copying.{applies_at}
 use Rattle.gc_concurrent.proofs.Placing.{leaves}
 use Rattle.gc_concurrent.proofs.Halves.{entry_own, target_own}
 use Rattle.gc_concurrent.proofs.Memory.{Stands, field_word_moved, near, at_place, brought_keeps, brought_starts, entry_field, unclaimed, lacks_not, lacks_so, moves_so, claims_kept, claims_as, claim_low, written_same}
-use Rattle.gc_concurrent.proofs.InHand.{mem, still_shaped, still_sized, still_same, still_spared, word_fits, claim_stands, header_there, keeps_seat, theirs_is, copies_is}
+use Rattle.gc_concurrent.proofs.InHand.{mem, still_spared, word_fits, claim_stands, header_there, keeps_seat, theirs_is, copies_is}
 use Rattle.gc_concurrent.proofs.Nearing.{nears_by, left_nears, applied_nears, wants_nears}
 use Rattle.gc_concurrent.specs.Internal.Following.{Follows}
 use Rattle.gc_concurrent.specs.Internal.Knowing.{Brings, Compared, Knows}

@@ -1,5 +1,5 @@
 -- The collector is as it was where the space comes back. Where the space is lost, nothing has a replica any more.
-use Rattle.std.proofs.Common.{◌≡◌, ◌≤◌, ℕ, true≢false, List, [], ◌∷◌, Option, ap, sym, ◌∙◌, subst, arith}
+use Rattle.std.proofs.Common.{◌≡◌, ◌≤◌, ℕ, true≢false, List, Option, ap, sym, ◌∙◌, subst, arith}
 use Rattle.std.proofs.Math.Logic.{∥∥₁_elim}
 use Rattle.std.proofs.Props.{props}
 use Rattle.std.specs.Prelude.{IfSome}
@@ -14,7 +14,6 @@ use Rattle.gc_concurrent.proofs.InHand.{still_same, still_shaped, still_sized}
 use Rattle.gc_concurrent.proofs.Knowing.{dropped_knows}
 use Rattle.gc_concurrent.proofs.Known.{has_room, is_found}
 use Rattle.gc_concurrent.proofs.Memory.{old_low}
-use Rattle.gc_concurrent.proofs.Opening.{empty_shaped}
 use Rattle.gc_concurrent.proofs.TiedCells.{tied_words}
 use Rattle.gc_concurrent.proofs.copier.Copier.end.Goals as goal
 use Rattle.gc_concurrent.proofs.copier.Copier.end.Goals.{In-Err-Some}

@@ -9,7 +9,6 @@ use Rattle.std.proofs.Props.{props}
 use Rattle.gc_words.specs.Space.{SpaceWords}
 use Rattle.gc_monitor.specs.Events.{Freed}
 use Rattle.gc_concurrent.specs.Ends.{Theirs}
-use Rattle.gc_concurrent.specs.Internal.Rule.{begun_anew}
 use Rattle.gc_concurrent.specs.Internal.Knowing.{Knows}
 use Rattle.gc_concurrent.proofs.Knowing.{dropped_knows}
 use Rattle.gc_concurrent.proofs.Known.{has_room, is_found}

@@ -5,7 +5,7 @@ use Rattle.atomic_table.specs.Seated.{TableId}
 use Rattle.gc_graph.specs.Graph.{Value, Ref}
 use Rattle.gc_words.specs.Word.{value_of, is_value}
 use Rattle.gc_words.specs.Layout.{field_place}
-use Rattle.gc_words.specs.Image.{is_start, field_at}
+use Rattle.gc_words.specs.Image.{field_at}
 use Rattle.gc_words.specs.Spelling.{link_at}
 use Rattle.gc_words.specs.Closed.{IsWordOfField}
 use Rattle.gc_words.specs.Space.{SpaceWords, with_field_at}
@@ -24,7 +24,7 @@ use Rattle.gc_concurrent.proofs.Copying.{scans_at}
 use Rattle.gc_concurrent.proofs.Placing.{passes}
 use Rattle.gc_concurrent.proofs.Halves.{target_own}
 use Rattle.gc_concurrent.proofs.Memory.{end_is, near, field_word_moved, old_high, scan_low, brought_keeps, brought_starts, lacks_not, lacks_so, moves_so, claims_kept, claims_as, claim_low, written_same}
-use Rattle.gc_concurrent.proofs.InHand.{mem, still_shaped, still_sized, still_same, still_spared, word_fits, at_scan, scan_left, scan_over, header_there, keeps_seat, theirs_is, copies_is}
+use Rattle.gc_concurrent.proofs.InHand.{mem, still_spared, word_fits, at_scan, scan_left, scan_over, header_there, keeps_seat, theirs_is, copies_is}
 use Rattle.gc_concurrent.proofs.Nearing.{nears_by, scan_within, passed_nears, scanned_nears, wants_nears}
 use Rattle.gc_concurrent.specs.Internal.Following.{Follows}
 use Rattle.gc_concurrent.specs.Internal.Knowing.{Brings, Compared, Knows}

@@ -1,5 +1,5 @@
 -- Where nothing is due and each root has its replica, the new space is the mutator's next one.
-use Rattle.std.proofs.Common.{◌≡◌, ◌⊎◌, ℕ, ◌+◌, ◌/◌, ◌<◌, ◌≤◌, Bool, true, false, is_some, List, [], ◌∷◌, length, slice_index, map, ap, sym, ◌∙◌, subst, inl, inr, arith}
+use Rattle.std.proofs.Common.{◌≡◌, ◌⊎◌, ℕ, ◌+◌, ◌/◌, ◌<◌, Bool, true, false, is_some, List, [], ◌∷◌, length, slice_index, map, ap, sym, ◌∙◌, subst, inl, inr, arith}
 use Rattle.gc_graph.specs.Graph.{Ref}
 use Rattle.gc_graph.specs.Correspond.{Corresponding}
 use Rattle.gc_words.specs.Word.{value_of, word_of}
