@@ -65,7 +65,7 @@ PLACES = {
     "gc_collected/src/checking.rt": {("found_by", BY_ARM): 1},
     "gc_concurrent/src/checking.rt": {("check", BY_ARM): 1},
     "gc_concurrent/src/copier.rt": {("prepare", BY_HAND): 1},
-    "gc_concurrent/src/held.rt": {("from", BY_FROM): 1, ("flip", BY_HAND): 1},
+    "gc_concurrent/src/held.rt": {("from", BY_FROM): 1, ("flip", BY_HAND): 1, ("open_ends", BY_HAND): 1},
     "gc_shared/src/closing.rt": {("fault", BY_ARM): 1},
     "gc_shared/src/fault.rt": {("from", BY_FROM): 5, ("from", BY_ARM): 1},
     "gc_trace/src/flips.rt": {("flip_in", BY_HAND): 1},
@@ -79,7 +79,8 @@ PLACES = {
 BY_HAND_REASONS = {
     ("gc_copy/src/log.rt", "add_segment"): "so many segments would take 8 EiB, more than an allocator can give",
     ("gc_concurrent/src/copier.rt", "prepare"): "it is in the branch where the standing checker could not reserve its tables",
-    ("gc_concurrent/src/held.rt", "flip"): "it is in the arm of a failed allocation, but beside the mutator that is still held",
+    ("gc_concurrent/src/held.rt", "flip"): "it is in the arm of `Copier::end`, which gives the collector back, beside the mutator that is still held",
+    ("gc_concurrent/src/held.rt", "open_ends"): "it is the other case of `let Ok(..)`, for `NextSpace::begin`, which may give the space back and has no fault",
     ("gcflip_heap_c/src/room.rt", "answer_of"): "too few words are free, and no collection that began in this call flipped; a step does so unless memory is refused",
     ("gcflip_heap_c/src/room.rt", "lack_of"): "work ended before a flip, at no step that found too little room",
     ("gcflip_heap_c/src/room.rt", "remember_unless_starved"): "it compares an answer with this one",
@@ -89,6 +90,14 @@ BY_HAND_REASONS = {
     ("gc_trace/src/flips.rt", "flip_in"): "the other case of `let Ok(..)`, which has no other fault; the prover takes no `?` there",
     ("gc_trace/src/playing.rt", "take"): "the other case of `let Ok(..)`, which has no other fault; the prover takes no `?` there",
     ("gcflip_c/src/text.rt", "gcflip_check_text"): "the arm is also that of a failed read, and reading from memory does not fail",
+}
+
+# Functions that give back what they were given where an allocation failed, and so have no name of a fault: how often each of them writes `Err`. Each stands
+# behind a call that failed, and that gives something back itself or returns one of CAUSES. In `begin` and `end` one stands where a count of owners is full.
+GIVEN_BACK = {
+    "gc_cells/src/table.rt": {"of_vec": 1},
+    "gc_concurrent/src/next.rt": {"begin": 3},
+    "gc_concurrent/src/ended.rt": {"end": 3},
 }
 
 
@@ -277,6 +286,36 @@ def places(_program, _folder):
     yield "reasons of the list", "no place for %s" % idle if idle else None
 
 
+def given_back_in(code):
+    """Returns how often each function of a file writes `Err` as a value."""
+    patterns, found = [arm.pattern for arm in code.arms] + patterns_by_let(code), {}
+    for at, token in enumerate(code.tokens):
+        function = code.around(at, "fn")
+        if token == "Err" and function and not declared(code, at) and not is_in(at, patterns):
+            name = code.tokens[function[1] + 1]
+            found[name] = found.get(name, 0) + 1
+    return found
+
+
+# A function that gives back what it was given in three places.
+GIVES_BACK = """fn begin(a: Row) -> Result<Space, Option<Row>> {
+    let Ok(b) = first(a) else { return Err(None); };
+    if let Err(c) = second(b) { return Err(Some(c)); }
+    match third(b) { Ok(space) => Ok(space), Err(d) => Err(Some(d)) }
+}
+"""
+
+
+def given_back(_program, _folder):
+    """The functions of GIVEN_BACK write `Err` as often as the list says."""
+    for shown, listed in GIVEN_BACK.items():
+        found = given_back_in(read(os.path.join(TOP, "crates", shown)))
+        wrong = ["%s writes %d, and the list has %d" % (name, found.get(name, 0), count) for name, count in listed.items() if found.get(name, 0) != count]
+        yield "what %s gives back" % shown, ", ".join(wrong) or None
+    found = given_back_in(Code(GIVES_BACK))
+    yield "a function that gives back in three ways", None if found == {"begin": 3} else "found %s" % found
+
+
 CONTROLS = os.path.join(TOP, "tests", "controls", "memory_faults")
 
 
@@ -298,4 +337,4 @@ def controls(_program, _folder):
     yield "there are controls", None if len(paths) > 38 else "%d" % len(paths)
 
 
-GROUPS = [places, controls]
+GROUPS = [places, given_back, controls]
