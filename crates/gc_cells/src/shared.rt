@@ -82,7 +82,7 @@ impl<S, V, K, P: TableRule<S, V, K>> Shared<S, V, K, P> {
         (Strip { ptr: words }, Strip { ptr: slots })
     }
 
-    /// Returns the same without a seat: the state meets the rule.
+    /// Returns the words as they are at the end, in a state that meets the rule.
     pub(crate) fn gather(self) -> (Strip<u64>, Strip<S>)
         ensures places { (result.0.ptr ≡ self.words) × (length result.0.items ≡ self.table_id.words) × (result.1.ptr ≡ self.slots) × (length result.1.items ≡ self.table_id.slots) }
         ensures values { Final (P.holds self.key) result.0.items result.1.items }

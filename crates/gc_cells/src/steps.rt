@@ -22,7 +22,7 @@ impl<S, V, K, P: TableRule<S, V, K>> Shared<S, V, K, P> {
         }
     }
 
-    // Does what `join_seat` does, to a seat that goes on.
+    // Gives `seat` both views, and leaves `other` with a spent one.
     fn merge<M: Join<V>>(&self, seat: &mut Seat<S, V>, other: &mut Seat<S, V>)
         requires { (seat.old.table_id ≡ self.now.table_id) × (other.old.table_id ≡ self.now.table_id) × (0 < self.now.table_id.words) × Joins (P.holds self.now.key) seat.old.id seat.old.me.0 other.old.id other.old.me.0 (M.both seat.old.me.0 other.old.me.0) M.spent }
         ensures { (seat.new.table_id ≡ seat.old.table_id) × (seat.new.id ≡ seat.old.id) × (seat.new.me ≡ (M.both seat.old.me.0 other.old.me.0, seat.old.me.1)) }

@@ -41,7 +41,7 @@ impl TableRule<Vec<u64>, CellsView, CellsKey> for CellsRule {
     ghost first = { λ k words. opening_view (one_heap (space_in words k.end) k.roots.items) 1 };
 }
 
-/// The cells with their memory. Both ends own them. They have no slots: a step names roots to its `Play` by the type of what a slot would hold.
+/// The cells with their memory. Both ends own them. They have no slots: `Vec<u64>` is the type of what one would hold.
 pub type Cells = Table<Vec<u64>, CellsView, CellsKey, CellsRule, Global>;
 
 /// One end of a heap: the right to step on its cells, and what its owner knows.

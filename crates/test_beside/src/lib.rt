@@ -1,4 +1,4 @@
-//! The tests of gc_concurrent, by its public calls.
+//! The tests of gc_cells and gc_concurrent, by their public calls.
 #![tactic(auto)]
 
 #[cfg(test)]
