@@ -18,12 +18,7 @@ use gc_words::{ImageRef, no_fault_where_certified};
 use std::alloc::Global;
 
 /// Loads the words of a space up to its end, one by one. Allocates once.
-fn loaded(
-    alloc: Global,
-    cells: &Cells,
-    seat: &mut CellsEnd,
-    end: u32,
-) -> Result<Vec<u64>, NoMemory>
+fn loaded(alloc: Global, cells: &Cells, seat: &mut CellsEnd, end: u32) -> Result<Vec<u64>, NoMemory>
     requires cells { seat.old.table_id ≡ cells.now.shared.table_id }
     requires wide { end ≤ cells.now.shared.table_id.words }
     requires writes { seat.old.me.0.writes ≡ true }
